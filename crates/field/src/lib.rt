@@ -1,0 +1,4 @@
+// Finite fields on codes.
+mod field;
+
+pub use field::Field;
