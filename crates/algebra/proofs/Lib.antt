@@ -1,0 +1,12 @@
+pub mod Ring
+pub mod Members
+pub mod Dual
+pub mod Moments
+pub mod Stages
+pub mod Roots
+pub mod Codes
+pub mod Listing
+pub mod Fitting
+pub mod Clean
+pub mod Rows
+pub mod Squares
