@@ -11,7 +11,7 @@ use borrow.Author.Tests.{lt-ltb, eq-eqb}
 use Rattle.laws.specs.Ops.{Ops}
 use Rattle.algebra.specs.Frames.{IsFrame}
 use Rattle.algebra.specs.Showings.{Showing, reading, count, doubt, differs, silent, Fits}
-use Rattle.algebra.specs.Statements.{Room, Shows-exactly, Fits-clean, Exact-fits, Fits-higher}
+use Rattle.algebra.specs.Statements.{Shows-exactly, Fits-clean, Exact-fits, Fits-higher}
 
 pub count-none : (k : ℕ) (t : ℕ → Bool) → ((i : ℕ) → i < k → t i ≡ false) → count k t ≡ 0
 count-none zero t h = refl
@@ -31,12 +31,12 @@ right true b p = refl
 right false b p = p
 
 pub exact-fits : Exact-fits
-exact-fits F m n c room limit w xs f s =
+exact-fits F m n c rule limit w xs f s =
     record {
       fits = record {
         wrong = λ _. false;
         not-gone = λ j l e. s .present j l;
-        strips = omega (arith, nothing, gone, room .checks);
+        strips = omega (arith, nothing, gone, rule .1);
         squares = omega (arith, silents, doubts);
         few = omega (arith, silents);
       };

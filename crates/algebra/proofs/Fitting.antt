@@ -15,7 +15,7 @@ use Rattle.std.proofs.shelf.Lists.{ext-getD, length-append}
 use Rattle.laws.specs.Ops.{Ops, Laws}
 use Rattle.algebra.specs.Frames.{IsFrame, FrameOf, record-size}
 use Rattle.algebra.specs.Showings.{Showing, reading, Fits, doubt, silent, count}
-use Rattle.algebra.specs.Statements.{Room, Frame-unique, Fit-unique, Records-apart}
+use Rattle.algebra.specs.Statements.{Frame-unique, Fit-unique, Records-apart}
 use Rattle.algebra.proofs.Ring.{In}
 use Rattle.algebra.proofs.Members.{in-left, in-right, from-append}
 use Rattle.algebra.proofs.Listing.{listed, length-listed, in-listed, from-listed, range, length-range, in-range, from-range}
@@ -56,8 +56,8 @@ two : (g d : Bool) → g ≡ false → d ≡ true → (not g && d) ≡ true
 two g d p q = cc
 
 pub fit-unique : Fit-unique
-fit-unique F L m n c room limit w xs ys f f′ p p′ =
-    same-frames F L m n c (room .squares) (room .places) xs ys f f′ (G ++ (H ++ H′)) (R ++ (B ++ B′))
+fit-unique F L m n c rule limit w xs ys f f′ p p′ =
+    same-frames F L m n c (rule .0) (rule .3) xs ys f f′ (G ++ (H ++ H′)) (R ++ (B ++ B′))
     (simp length-append (omega (arith, length-listed n (w .gone), length-listed n (p .wrong), length-listed n (p′ .wrong), p .strips, p′ .strips)))
     (simp length-append (omega (arith, length-listed (n * m) (doubt m w), length-listed (n * m) (silent m w (p .wrong) xs), length-listed (n * m) (silent m w (p′ .wrong) ys), p .squares, p′ .squares)))
     (from-append (λ j. j < n) G (H ++ H′) (from-listed n (w .gone)) (from-append (λ j. j < n) H H′ (from-listed n (p .wrong)) (from-listed n (p′ .wrong))))
@@ -86,7 +86,7 @@ fit-unique F L m n c room limit w xs ys f f′ p p′ =
     only : (s : ℕ) → s < n * m → (getD xs s 0 ≡ getD ys s 0) ⊎ (In (s / m) (G ++ (H ++ H′)) ⊎ In s (R ++ (B ++ B′)))
     only s l =
         let j : ℕ = s / m in
-        let lj : j < n = board m n (room .squares) .strip-less s l in
+        let lj : j < n = board m n (rule .0) .strip-less s l in
         elim (cases-bool (w .gone j)) [
           | inl g ↦ inr (inl (in-left j G (H ++ H′) (in-listed n (w .gone) j lj g)))
           | inr g ↦ elim (cases-bool (p .wrong j)) [
@@ -108,15 +108,15 @@ fit-unique F L m n c room limit w xs ys f f′ p p′ =
         ]
 
 pub records-apart : Records-apart
-records-apart F L m n c room limit w rec sec xs ys f f′ p p′ =
-    sym (f .begins) ∙ ap (take (record-size m n c)) (fit-unique F L m n c room limit (reading (F .order) w) xs ys (f .frame) (f′ .frame) p p′) ∙ f′ .begins
+records-apart F L m n c rule limit w rec sec xs ys f f′ p p′ =
+    sym (f .begins) ∙ ap (take (record-size m n c)) (fit-unique F L m n c rule limit (reading (F .order) w) xs ys (f .frame) (f′ .frame) p p′) ∙ f′ .begins
 
 pub frame-unique : Frame-unique
-frame-unique F L m n c room symbols xs ys f f′ =
+frame-unique F L m n c rule symbols xs ys f f′ =
     ext-getD 0 xs ys (f .frame .size ∙ sym (f′ .frame .size)) (λ t l. ap (λ z. z .0) (inside t (omega (arith, f .frame .size))))
   where
     pos : 0 < m
-    pos = room .squares
+    pos = rule .0
 
     front : (s : ℕ) → s / m < n - c → getD xs s 0 ≡ getD ys s 0
     front s h =
@@ -124,11 +124,11 @@ frame-unique F L m n c room symbols xs ys f f′ =
         sym (getD-take (record-size m n c) xs s 0 l) ∙ ap (λ zs. getD zs s 0) (f .begins ∙ sym (f′ .begins)) ∙ getD-take (record-size m n c) ys s 0 l
 
     inside : (t : ℕ) → t < n * m → at F L xs (f .frame .codes) t ≡ at F L ys (f′ .frame .codes) t
-    inside = same-strips (codes F L) (n * m) n c m (a F L m n c pos (room .places)) (a F L m n c pos (room .places)) (λ s. s / m) (λ j. range (j * m) m) (board m n pos)
-        (a-apart F L m n c pos (room .places)) (β-apart F L m n c pos (room .places)) (at F L xs (f .frame .codes)) (at F L ys (f′ .frame .codes))
-        (balanced F L m n c pos (room .places) xs (f .frame)) (balanced F L m n c pos (room .places) ys (f′ .frame))
-        (range (n - c) c) (omega (arith, length-range (n - c) c)) (λ j i. omega (arith, from-range (n - c) c j i, room .records))
+    inside = same-strips (codes F L) (n * m) n c m (a F L m n c pos (rule .3)) (a F L m n c pos (rule .3)) (λ s. s / m) (λ j. range (j * m) m) (board m n pos)
+        (a-apart F L m n c pos (rule .3)) (β-apart F L m n c pos (rule .3)) (at F L xs (f .frame .codes)) (at F L ys (f′ .frame .codes))
+        (balanced F L m n c pos (rule .3) xs (f .frame)) (balanced F L m n c pos (rule .3) ys (f′ .frame))
+        (range (n - c) c) (omega (arith, length-range (n - c) c)) (λ j i. omega (arith, from-range (n - c) c j i, rule .2))
         (λ s l. elim (cases-lt (s / m) (n - c)) [
           | inl h ↦ inl (Fin·val-path (front s h))
-          | inr h ↦ inr (in-range (n - c) c (s / m) h (omega (arith, room .records, board m n pos .strip-less s l)))
+          | inr h ↦ inr (in-range (n - c) c (s / m) h (omega (arith, rule .2, board m n pos .strip-less s l)))
         ])
