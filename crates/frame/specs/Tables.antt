@@ -1,0 +1,43 @@
+-- The tables by which check sums are computed.
+--   Powers     the list has the powers of a code, from exponent 0 on
+--   Moments    the list has the power sums of weighted points, from exponent 0 on
+--   column     the power sum h of strip j's symbols at their locators
+--   Columns    the list has, strip by strip, each strip's power sums below m
+--   row        the h-th power sums of all strips
+--   Sums       the list has the check sums of an array: m rows of c
+--   Filled-in  a list whose strips have the power sums that another list has
+-- Assumes nothing.
+use mathlib.Core.Path.{_≡_}
+use mathlib.Core.List.{List}
+use Prim.Native.Nat.{ℕ, _+_, _*_, _<_, _≤_}
+use lib.ListN.{length, getD}
+use Rattle.refusal.specs.Codes.{Below}
+use Rattle.laws.specs.Ops.{Ops, power, sum}
+use Rattle.algebra.specs.Frames.{check-sum}
+use Rattle.solver.specs.Sums.{moment}
+
+abbrev pub Powers : Ops → ℕ → List ℕ → Type 0
+Powers F x xs = (j : ℕ) → j < length xs → getD xs j 0 ≡ power F x j
+
+abbrev pub Moments : Ops → List ℕ → List ℕ → List ℕ → Type 0
+Moments F points xs out = (h : ℕ) → h < length out → getD out h 0 ≡ moment F points xs h
+
+abbrev pub column : Ops → ℕ → List ℕ → List ℕ → ℕ → ℕ → ℕ
+column F m points xs j h = sum F m (λ κ. F .mul (getD xs (j * m + κ) 0) (power F (getD points (j * m + κ) 0) h))
+
+-- the first n strips
+pub record Columns (F : Ops) (m n : ℕ) (points xs columns : List ℕ) : Type 0 where
+  pub sums : (j h : ℕ) → j < n → h < m → getD columns (j * m + h) 0 ≡ column F m points xs j h
+
+abbrev pub Row : ℕ → ℕ → List ℕ → List ℕ → Type 0
+Row m h columns row = (j : ℕ) → j < length row → getD row j 0 ≡ getD columns (j * m + h) 0
+
+-- the first k rows
+pub record Sums (F : Ops) (m n c k : ℕ) (xs table : List ℕ) : Type 0 where
+  pub sums : (h i : ℕ) → h < k → i < c → getD table (h * c + i) 0 ≡ check-sum F m n xs h i
+
+-- the first n strips of xs have the power sums of columns, the others are those of columns
+pub record Filled-in (F : Ops) (m n : ℕ) (points columns xs : List ℕ) : Type 0 where
+  pub below : (p : ℕ) → p < n * m → getD xs p 0 < F .order
+  pub sums : (j h : ℕ) → j < n → h < m → column F m points xs j h ≡ getD columns (j * m + h) 0
+  pub later : (p : ℕ) → n * m ≤ p → getD xs p 0 ≡ getD columns p 0
