@@ -1,2 +1,5 @@
 pub mod Filling
 pub mod Factors
+pub mod Strips
+pub mod Rows
+pub mod Solves

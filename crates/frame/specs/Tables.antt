@@ -4,10 +4,12 @@
 --   column     the power sum h of strip j's symbols at their locators
 --   Columns    the list has, strip by strip, each strip's power sums below m
 --   row        the h-th power sums of all strips
+--   Scattered  a row is put into the table of strips
 --   Sums       the list has the check sums of an array: m rows of c
 --   Filled-in  a list whose strips have the power sums that another list has
 -- Assumes nothing.
 use mathlib.Core.Path.{_≡_}
+use mathlib.Core.Logic.{_≢_}
 use mathlib.Core.List.{List}
 use Prim.Native.Nat.{ℕ, _+_, _*_, _<_, _≤_}
 use lib.ListN.{length, getD}
@@ -41,3 +43,8 @@ pub record Filled-in (F : Ops) (m n : ℕ) (points columns xs : List ℕ) : Type
   pub below : (p : ℕ) → p < n * m → getD xs p 0 < F .order
   pub sums : (j h : ℕ) → j < n → h < m → column F m points xs j h ≡ getD columns (j * m + h) 0
   pub later : (p : ℕ) → n * m ≤ p → getD xs p 0 ≡ getD columns p 0
+
+-- the h-th power sums of the first n strips are those of the row, and all else is as it was
+pub record Scattered (m h n : ℕ) (row columns columns' : List ℕ) : Type 0 where
+  pub there : (j : ℕ) → j < n → getD columns' (j * m + h) 0 ≡ getD row j 0
+  pub others : (p : ℕ) → ((j : ℕ) → j < n → p ≢ j * m + h) → getD columns' p 0 ≡ getD columns p 0

@@ -1,5 +1,10 @@
 // The published code: check sums, and the frame of a record.
 mod power_sums;
+mod table;
 
 pub use power_sums::moments;
 pub use power_sums::powers;
+pub use table::column_sums;
+pub use table::gather_row;
+pub use table::scatter_row;
+pub use table::solve_strips;

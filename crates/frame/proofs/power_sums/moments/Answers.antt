@@ -22,8 +22,9 @@ loop-h-again g c =
     let inv = c .loop-h .inv in
     let h = c .loop-h .h in
     let points = c .args .points .now in
-    let weights = c .args .weights .now in
-    (λ t l. rw (add-one h) (c .turn .ensures .raised t l ∙ ap (λ z. F .mul z (getD points t 0)) (inv .0 t l)
-       ∙ raise F L (getD weights t 0) (getD points t 0) h (c .pre .weights t (omega (arith, c .pre .size))) (c .pre .points t l)),
-     set-before (moment F points weights) (c .loop-h .out) h (c .turn .result) (omega arith)
-       (c .turn .ensures .total ∙ sum-cong F (length points) (λ t. getD (c .loop-h .weights) t 0) (λ t. F .mul (getD weights t 0) (power F (getD points t 0) h)) (inv .0)) (inv .1))
+    let weights = c .args .weights .now in (
+      λ t l. rw (add-one h) (c .turn .ensures .raised t l ∙ ap (λ z. F .mul z (getD points t 0)) (inv .0 t l)
+          ∙ raise F L (getD weights t 0) (getD points t 0) h (c .pre .weights t (omega (arith, c .pre .size))) (c .pre .points t l)),
+      set-before (moment F points weights) (c .loop-h .out) h (c .turn .result) (omega arith)
+          (c .turn .ensures .total ∙ sum-cong F (length points) (λ t. getD (c .loop-h .weights) t 0) (λ t. F .mul (getD weights t 0) (power F (getD points t 0) h)) (inv .0)) (inv .1),
+    )
