@@ -3,3 +3,4 @@ pub mod Factors
 pub mod Strips
 pub mod Rows
 pub mod Solves
+pub mod Columns

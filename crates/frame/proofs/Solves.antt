@@ -49,8 +49,8 @@ module _ (F : Ops) (m n j : ℕ) (points start xs new : List ℕ) (lj : j < n) (
     below = λ p l. let s = next-strip m j in elim (cases-lt p (j * m)) [
       | inl k ↦ rw (at-old p k) (done .below p k)
       | inr k ↦ (let e : p ≡ j * m + (p - j * m) = omega arith in
-        let b = solved .below (p - j * m) (omega arith) in
-        subst (λ (z : ℕ). z < F .order) (sym (ap (λ k. getD (putMid (j * m) (j * m + m - j * m) xs new) k 0) e ∙ at-new (p - j * m) (omega arith))) b)
+          let b = solved .below (p - j * m) (omega arith) in
+          subst (λ (z : ℕ). z < F .order) (sym (ap (λ k. getD (putMid (j * m) (j * m + m - j * m) xs new) k 0) e ∙ at-new (p - j * m) (omega arith))) b)
     ];
     sums = λ i h l lh. elim (cases-eq i j) [
       | inl q ↦ ap (λ k. column F m points (putMid (j * m) (j * m + m - j * m) xs new) k h) q ∙ here h lh ∙ ap (λ k. getD start (k * m + h) 0) (sym q)

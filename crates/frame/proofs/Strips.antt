@@ -40,9 +40,9 @@ pub strips-more : (f : ℕ → ℕ → ℕ) (m j : ℕ) (xs new : List ℕ) → 
     → (i h : ℕ) → i < j + 1 → h < m → getD (putMid (j * m) (j * m + m - j * m) xs new) (i * m + h) 0 ≡ f i h
 strips-more f m j xs new room size is before i h l lh = elim (cases-eq i j) [
   | inl q ↦ ap (λ k. getD (putMid (j * m) (j * m + m - j * m) xs new) (k * m + h) 0) q
-    ∙ put-in (j * m) (j * m + m - j * m) xs new h (omega arith) (omega arith) ∙ is h lh ∙ ap (λ k. f k h) (sym q)
+      ∙ put-in (j * m) (j * m + m - j * m) xs new h (omega arith) (omega arith) ∙ is h lh ∙ ap (λ k. f k h) (sym q)
   | inr n ↦ (let s : i < j = omega arith in let e = in-strip m j i h s lh in
-    put-before (j * m) (j * m + m - j * m) xs new (i * m + h) e (omega arith) ∙ before i h s lh)
+      put-before (j * m) (j * m + m - j * m) xs new (i * m + h) e (omega arith) ∙ before i h s lh)
 ]
 
 -- and the strips behind it are as they were

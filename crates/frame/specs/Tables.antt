@@ -3,7 +3,9 @@
 --   Moments    the list has the power sums of weighted points, from exponent 0 on
 --   column     the power sum h of strip j's symbols at their locators
 --   Columns    the list has, strip by strip, each strip's power sums below m
---   row        the h-th power sums of all strips
+--   row-sum    the power sum i, at the strips' locators, of their power sums h
+--   Row        the list has the h-th power sums of the strips
+--   Row-sums   the list has the row-sums: rows of c
 --   Scattered  a row is put into the table of strips
 --   Sums       the list has the check sums of an array: m rows of c
 --   Filled-in  a list whose strips have the power sums that another list has
@@ -31,12 +33,19 @@ column F m points xs j h = sum F m (λ κ. F .mul (getD xs (j * m + κ) 0) (powe
 pub record Columns (F : Ops) (m n : ℕ) (points xs columns : List ℕ) : Type 0 where
   pub sums : (j h : ℕ) → j < n → h < m → getD columns (j * m + h) 0 ≡ column F m points xs j h
 
+-- the power sum i of the strips' power sums h
+abbrev pub row-sum : Ops → ℕ → List ℕ → List ℕ → ℕ → ℕ → ℕ
+row-sum F m points columns h i = sum F (length points) (λ j. F .mul (getD columns (j * m + h) 0) (power F (getD points j 0) i))
+
 abbrev pub Row : ℕ → ℕ → List ℕ → List ℕ → Type 0
 Row m h columns row = (j : ℕ) → j < length row → getD row j 0 ≡ getD columns (j * m + h) 0
 
--- the first k rows
-pub record Sums (F : Ops) (m n c k : ℕ) (xs table : List ℕ) : Type 0 where
-  pub sums : (h i : ℕ) → h < k → i < c → getD table (h * c + i) 0 ≡ check-sum F m n xs h i
+-- the first k rows: each has the power sums of the strips' power sums
+pub record Row-sums (F : Ops) (m c k : ℕ) (points columns table : List ℕ) : Type 0 where
+  pub sums : (h i : ℕ) → h < k → i < c → getD table (h * c + i) 0 ≡ row-sum F m points columns h i
+
+pub record Sums (F : Ops) (m n c : ℕ) (xs table : List ℕ) : Type 0 where
+  pub sums : (h i : ℕ) → h < m → i < c → getD table (h * c + i) 0 ≡ check-sum F m n xs h i
 
 -- the first n strips of xs have the power sums of columns, the others are those of columns
 pub record Filled-in (F : Ops) (m n : ℕ) (points columns xs : List ℕ) : Type 0 where

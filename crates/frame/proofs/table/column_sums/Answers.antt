@@ -48,6 +48,6 @@ loop-j-again g c =
     let size : length new ≡ m = c .moments .kept .out ∙ part-size m n j columns (omega arith) long in
     record {
       sums = strips-more (column F m locs xs) m j columns new (omega arith) size
-        (λ h l. c .moments .ensures .value h (omega arith) ∙ ap (λ (zs : List ℕ). moment F (part (j * m) (j * m + m) locs) zs h) (c .copy-from-slice .ensures .after) ∙ part-moment F m n j locs xs h (omega arith) (c .pre .locators-size))
-        (c .loop-j .inv .sums);
+          (λ h l. c .moments .ensures .value h (omega arith) ∙ ap (λ (zs : List ℕ). moment F (part (j * m) (j * m + m) locs) zs h) (c .copy-from-slice .ensures .after) ∙ part-moment F m n j locs xs h (omega arith) (c .pre .locators-size))
+          (c .loop-j .inv .sums);
     }

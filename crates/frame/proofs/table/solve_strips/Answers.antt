@@ -27,7 +27,7 @@ solve-requires g c κs =
       size = size ∙ sym (part-size m n j locs (omega arith) (c .pre .locators-size));
       points-below = part-below q m n j locs (omega arith) (c .pre .locators-size) (c .pre .locators-below);
       values-below = λ i l. let r = in-strip m n j i (omega arith) (omega arith) in
-        rw (part-at m j columns i (omega arith) ∙ c .loop-j .inv .later (j * m + i) (omega arith)) (c .pre .columns-below (j * m + i) (omega arith));
+          rw (part-at m j columns i (omega arith) ∙ c .loop-j .inv .later (j * m + i) (omega arith)) (c .pre .columns-below (j * m + i) (omega arith));
       apart = part-apart m n j locs (omega arith) (c .pre .locators-size) (c .pre .apart);
     }
 
