@@ -5,4 +5,5 @@ pub mod Steps
 pub mod Linear
 pub mod Product
 pub mod Logs
+pub mod ByTables
 pub mod Fields
