@@ -1,4 +1,5 @@
 // Finite fields on codes.
 mod field;
+mod logs;
 
 pub use field::Field;
