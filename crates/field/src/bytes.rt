@@ -3,7 +3,8 @@ ghost use mathlib.Core.Path.{_≡_};
 ghost use Rattle.laws.specs.Ops.{Ops, Laws, less};
 ghost use Rattle.laws.specs.Instances.{bytes};
 use crate::field::Field;
-use crate::logs::{exp, log};
+use crate::logs::exp;
+use crate::logs::log;
 
 /// Every byte is a code.
 pub struct Bytes;

@@ -3,6 +3,8 @@ mod bytes;
 mod field;
 mod logs;
 mod mod37;
+#[cfg(test)]
+mod tests;
 
 pub use bytes::Bytes;
 pub use bytes::BytesField;

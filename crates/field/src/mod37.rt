@@ -7,8 +7,9 @@ use crate::field::Field;
 /// The codes are the bytes below 37.
 pub struct Mod37;
 
-const INVERSES: &[u8; 37] = b"\x00\x01\x13\x19\x1c\x0f\x1f\x10\x0e\x21\x1a\x1b\x22\x14\x08\x05\x07\x18\x23\
-\x02\x0d\x1e\x20\x1d\x11\x03\x0a\x0b\x04\x17\x15\x06\x16\x09\x0c\x12\x24";
+const INVERSES: &[u8; 37] =
+    b"\x00\x01\x13\x19\x1c\x0f\x1f\x10\x0e\x21\x1a\x1b\x22\x14\x08\x05\x07\x18\x23\
+      \x02\x0d\x1e\x20\x1d\x11\x03\x0a\x0b\x04\x17\x15\x06\x16\x09\x0c\x12\x24";
 
 pub impl Field for Mod37 as Mod37Field {
     const ORDER: u16 = 37;
@@ -34,7 +35,11 @@ pub impl Field for Mod37 as Mod37Field {
     }
 
     fn mul(a: u8, b: u8) -> u8 {
-        if a < 37 && b < 37 { ((a as u16 * b as u16) % 37) as u8 } else { 0 }
+        if a < 37 && b < 37 {
+            ((a as u16 * b as u16) % 37) as u8
+        } else {
+            0
+        }
     }
 
     fn inv(a: u8) -> u8 {
