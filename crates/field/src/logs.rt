@@ -301,6 +301,7 @@ const LOG: [u16; 256] = [
 ];
 
 /// The power `k` of the generator, 0 beyond the sums of logarithms of codes that are not 0.
+/// Callers keep `k` within the table.
 pub fn exp(k: u16) -> u8
     requires { ⌜ k ≤ 1024 ⌝ }
     ensures value { λ r. ⌜ r ≡ antilog bytes k ⌝ }

@@ -19,14 +19,22 @@ mod-mul-mod a b m =
 pub mul-mod-mod : (a b m : ℕ) → a * (b % m) % m ≡ a * b % m
 mul-mod-mod a b m = ap (λ n. n % m) (mul-comm a (b % m)) ∙ mod-mul-mod b a m ∙ ap (λ n. n % m) (mul-comm b a)
 
--- what is tested of p and g: each code but 0 has its power p - 2 for an inverse, and no two powers of g are equal
+-- k + 1 times its power p - 2 is 1, modulo p
+abbrev pub inverted : ℕ → ℕ → Bool
+inverted p k = eqb (suc k * (suc k ^ (p - 2) % p) % p) 1
+
+-- the powers i and j of g are not equal
+abbrev pub differ : ℕ → ℕ → ℕ → ℕ → Bool
+differ p g j i = not (eqb (power (modular p g) g i) (power (modular p g) g j))
+
+-- what is tested of p and g; the inverses make p a prime
 pub record Tested (p g : ℕ) : Type 0 where
   pub least : 3 ≤ p
   pub most : p ≤ 256
   pub generator-least : 1 ≤ g
   pub generator-code : g < p
-  pub inverts : T (all (p - 1) (λ k. eqb (suc k * (suc k ^ (p - 2) % p) % p) 1))
-  pub apart : T (all (p - 1) (λ j. all j (λ i. not (eqb (power (modular p g) g i) (power (modular p g) g j)))))
+  pub inverts : T (all (p - 1) (inverted p))
+  pub apart : T (all (p - 1) (λ j. all j (differ p g j)))
 
 module _ (p g : ℕ) (two : 2 ≤ p) where
   lt : (x : ℕ) → x % p < p
@@ -75,7 +83,7 @@ module _ (p g : ℕ) (two : 2 ≤ p) where
 module _ (p g : ℕ) (tested : Tested p g) where
   inverse : (a : ℕ) → a < p → (a ≡ 0 → ⊥) → a * (a ^ (p - 2) % p) % p ≡ 1
   inverse zero h n = absurd (n refl)
-  inverse (suc k) h n = eqb→eq _ 1 (at (p - 1) (λ k. eqb (suc k * (suc k ^ (p - 2) % p) % p) 1) (tested .inverts) k (omega arith))
+  inverse (suc k) h n = eqb→eq _ 1 (at (p - 1) (inverted p) (tested .inverts) k (omega arith))
 
   two : 2 ≤ p
   two = let l = tested .least in omega arith
@@ -84,8 +92,15 @@ module _ (p g : ℕ) (tested : Tested p g) where
   pos = let l = tested .least in omega arith
 
   no-inverse : 0 ^ (p - 2) % p ≡ 0
-  no-inverse = let l = tested .least in let e : p - 2 ≡ suc (p - 3) = omega arith in
+  no-inverse =
+      let l = tested .least in
+      let e : p - 2 ≡ suc (p - 3) = omega arith in
       ap (λ n. 0 ^ n % p) e ∙ ap (λ n. n % p) (pow-suc 0 (p - 3) ∙ mul-zero (0 ^ (p - 3))) ∙ mod-eq-of-lt pos
+
+  apart : (i j : ℕ) → i < j → j + 1 < p → power (modular p g) g i ≡ power (modular p g) g j → ⊥
+  apart i j l h e =
+      let row = at (p - 1) (λ j. all j (differ p g j)) (tested .apart) j (omega arith) in
+      T-not _ (at j (differ p g j) row i l) (subst (λ (x : ℕ). T (eqb (power (modular p g) g i) x)) e (eqb-refl _))
 
   pub modular-laws : Laws (modular p g)
   modular-laws = record {
@@ -111,5 +126,5 @@ module _ (p g : ℕ) (tested : Tested p g) where
     mul-one = λ a h. in-2 p a 1 _ h two ∙ ap (λ n. n % p) (mul-one a) ∙ mod-eq-of-lt h;
     mul-inv = λ a h n. ap (λ x. modular p g .mul a x) (in-1 p a _ h) ∙ in-2 p a (a ^ (p - 2) % p) _ h (mod-lt _ pos) ∙ inverse a h n;
     mul-add = distributed p g two;
-    powers-apart = λ i j l h e. T-not _ (at j (λ i. not (eqb (power (modular p g) g i) (power (modular p g) g j))) (at (p - 1) (λ j. all j (λ i. not (eqb (power (modular p g) g i) (power (modular p g) g j)))) (tested .apart) j (omega arith)) i l) (subst (λ (x : ℕ). T (eqb (power (modular p g) g i) x)) e (eqb-refl _));
+    powers-apart = apart;
   }
