@@ -164,6 +164,7 @@ def all_scripts(dice, count):
                                                              + doubt(0, 0, 0) + read(0))
     for geometry in LIMITS:
         scripts += [limit_script(dice, geometry) for _ in range(3)]
+    scripts = list(dict.fromkeys(scripts))
     while len(scripts) < count:
         scripts.append(random_script(dice, dice.one(RANDOM), 4 + dice.below(24)))
     return scripts

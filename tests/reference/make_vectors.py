@@ -169,11 +169,17 @@ def frame_vectors(dice, count):
     pools = [(kind, geo) for kind in FIELDS for geo in sum(geometries(kind), [])]
     cards = [p for p in pools if p[0] == 1]
     some = [p for p in pools if p[0] == 0] + dice.pick(cards, min(len(cards), 160))
-    for at in range(count):
+    made = set()
+    while len(made) < count:
+        at = len(made)
         kind, geo = some[at] if at < len(some) else dice.one([p for p in some if p[1].m * p[1].n <= 64])
         field = FIELDS[kind]
-        record = random_record(dice, field, geo) if at % 7 else [1] + [0] * (geo.m * geo.k - 1)
-        yield 'F %d %d %d %d %s %s' % (kind, geo.m, geo.n, geo.c, hex_of(record), hex_of(frame_of(field, geo, record)))
+        record = random_record(dice, field, geo) if dice.below(7) else [1] + [0] * (geo.m * geo.k - 1)
+        frame = frame_of(field, geo, record)
+        line = 'F %d %d %d %d %s %s' % (kind, geo.m, geo.n, geo.c, hex_of(record), hex_of(frame))
+        if line not in made:
+            made.add(line)
+            yield line
 
 
 def main():
