@@ -1,10 +1,7 @@
 -- The check sums, strip by strip: the power sums of the strips' power sums. Assumes nothing.
 use mathlib.Core.Path.{_≡_, refl, sym, ap, subst, _∙_}
-use mathlib.Core.Logic.{inl, inr}
 use mathlib.Core.List.{List}
-use Prim.Native.Nat.{ℕ, zero, suc, Fin, _+_, _*_, _/_, _%_, _<_, _≤_}
-use native.Mathlib.Nat.{div-add-mod', mod-lt, div-lt-iff-lt-mul, mul-zero}
-use Rattle.std.proofs.shelf.Tests.{cases-lt}
+use Prim.Native.Nat.{ℕ, zero, suc, Fin, _+_, _*_, _<_, _≤_}
 use native.Mathlib.Omega.{arith}
 use lib.ListN.{length, getD}
 use Rattle.refusal.specs.Codes.{Below}
@@ -13,7 +10,7 @@ use Rattle.algebra.specs.Frames.{check-sum, strip-locator, square-locator}
 use Rattle.algebra.proofs.Ring.{Whole, sum, sum-cong, sum-scale, power, mul-comm, ring}
 use Rattle.algebra.proofs.Codes.{codes, gen, at, sum-val, power-val}
 use Rattle.solver.proofs.Parts.{sum-cong as sumF-cong}
-use Rattle.frame.proofs.Strips.{in-strip}
+use Rattle.frame.proofs.Strips.{in-strip, by-place}
 use Rattle.frame.proofs.Factors.{power-code}
 use Rattle.frame.specs.Tables.{column, row-sum, Powers, Columns}
 
@@ -70,12 +67,7 @@ module _ (F : Ops) (L : Laws F) (m n : ℕ) where
 
   pub columns-below : (points xs columns : List ℕ) → Columns F m n points xs columns → length columns ≡ n * m → Below (F .order) columns
   columns-below points xs columns cols e s l =
-      let d = div-add-mod' s m in
-      elim (cases-lt 0 m) [
-        | inl pos ↦ (let r : s / m < n = div-lt-iff-lt-mul pos .1 (omega arith) in
-            subst (λ (z : ℕ). z < F .order) (sym (ap (λ z. getD columns z 0) (sym d) ∙ cols .sums (s / m) (s % m) r (mod-lt s pos))) (sum-code m _))
-        | inr none ↦ absurd (let z : m ≡ 0 = omega arith in let y : n * m ≡ 0 = ap (λ t. n * t) z ∙ mul-zero n in omega arith)
-      ]
+      by-place m n s (omega arith) (λ (z : ℕ). getD columns z 0 < F .order) (λ j h lj lh. subst (λ (z : ℕ). z < F .order) (sym (cols .sums j h lj lh)) (sum-code m _))
 
   pub powers-below : (x : ℕ) (xs : List ℕ) → Powers F x xs → Below (F .order) xs
   powers-below x xs ps j l = rw (ps j l) (power-code F L x j)

@@ -4,3 +4,5 @@ pub mod Strips
 pub mod Rows
 pub mod Solves
 pub mod Columns
+pub mod Checks
+pub mod Completes

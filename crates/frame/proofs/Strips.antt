@@ -1,15 +1,15 @@
 -- Lists of strips of m places: a strip is a part of the list, and what is written strip by strip. Assumes nothing.
-use mathlib.Core.Path.{_≡_, refl, sym, ap, _∙_}
+use mathlib.Core.Path.{_≡_, refl, sym, ap, subst, _∙_}
 use mathlib.Core.Logic.{_≢_, inl, inr}
 use mathlib.Core.List.{List}
-use Prim.Native.Nat.{ℕ, suc, _+_, _-_, _*_, _<_, _≤_}
-use native.Mathlib.Nat.{mul-le-mul-right, suc-mul}
+use Prim.Native.Nat.{ℕ, suc, _+_, _-_, _*_, _/_, _%_, _<_, _≤_}
+use native.Mathlib.Nat.{mul-le-mul-right, suc-mul, mul-zero, div-add-mod', div-lt-iff-lt-mul, mod-lt}
 use native.Mathlib.Numerals.{add-one}
 use native.Mathlib.Omega.{arith}
 use lib.Arith.{digits-div}
 use lib.ListN.{length, getD}
 use borrow.Rule.Slice.PartMut.{putMid}
-use Rattle.std.proofs.shelf.Tests.{cases-eq}
+use Rattle.std.proofs.shelf.Tests.{cases-eq, cases-lt}
 use Rattle.laws.specs.Ops.{Ops, power, sum}
 use Rattle.refusal.specs.Codes.{Below}
 use Rattle.solver.specs.Sums.{moment, Apart}
@@ -72,3 +72,10 @@ part-apart m n j xs l e a i k li lk q =
     let t = in-strip m n j k l (omega arith) in
     let same = a (j * m + i) (j * m + k) (omega arith) (omega arith) (sym (part-at m j xs i (omega arith)) ∙ q ∙ part-at m j xs k (omega arith)) in
     omega arith
+
+-- every place is a square of a strip
+pub by-place : (m n p : ℕ) → p < n * m → (P : ℕ → Type 0) → ((j h : ℕ) → j < n → h < m → P (j * m + h)) → P p
+by-place m n p l P at = elim (cases-lt 0 m) [
+  | inl pos ↦ subst P (div-add-mod' p m) (at (p / m) (p % m) (div-lt-iff-lt-mul pos .1 l) (mod-lt p pos))
+  | inr none ↦ absurd (let z : m ≡ 0 = omega arith in let y : n * m ≡ 0 = ap (λ t. n * t) z ∙ mul-zero n in omega arith)
+]

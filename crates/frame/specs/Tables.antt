@@ -9,6 +9,9 @@
 --   Scattered  a row is put into the table of strips
 --   Sums       the list has the check sums of an array: m rows of c
 --   Filled-in  a list whose strips have the power sums that another list has
+--   Check-columns   the power sums that the check strips must have
+--   Check-strips    check strips that have such power sums
+--   Completed  the frame that begins as an array does
 -- Assumes nothing.
 use mathlib.Core.Path.{_≡_}
 use mathlib.Core.Logic.{_≢_}
@@ -17,7 +20,7 @@ use Prim.Native.Nat.{ℕ, _+_, _*_, _<_, _≤_}
 use lib.ListN.{length, getD}
 use Rattle.refusal.specs.Codes.{Below}
 use Rattle.laws.specs.Ops.{Ops, power, sum}
-use Rattle.algebra.specs.Frames.{check-sum}
+use Rattle.algebra.specs.Frames.{check-sum, IsFrame}
 use Rattle.solver.specs.Sums.{moment}
 
 abbrev pub Powers : Ops → ℕ → List ℕ → Type 0
@@ -57,3 +60,19 @@ pub record Filled-in (F : Ops) (m n : ℕ) (points columns xs : List ℕ) : Type
 pub record Scattered (m h n : ℕ) (row columns columns' : List ℕ) : Type 0 where
   pub there : (j : ℕ) → j < n → getD columns' (j * m + h) 0 ≡ getD row j 0
   pub others : (p : ℕ) → ((j : ℕ) → j < n → p ≢ j * m + h) → getD columns' p 0 ≡ getD columns p 0
+
+-- the first k power sums of each strip: those by which the row-sums are the negated check sums of the table
+pub record Check-columns (F : Ops) (m k : ℕ) (points table columns : List ℕ) : Type 0 where
+  pub below : (t h : ℕ) → t < length points → h < k → getD columns (t * m + h) 0 < F .order
+  pub sums : (h i : ℕ) → h < k → i < length points → row-sum F m points columns h i ≡ F .neg (getD table (h * length points + i) 0)
+
+-- check strips by which the check sums of the table are made up for
+pub record Check-strips (F : Ops) (m : ℕ) (points squares table xs : List ℕ) : Type 0 where
+  pub below : Below (F .order) xs
+  pub sums : (h i : ℕ) → h < m → i < length points
+      → sum F (length points) (λ t. F .mul (column F m squares xs t h) (power F (getD points t 0) i)) ≡ F .neg (getD table (h * length points + i) 0)
+
+-- xs is the frame that has the first k strips of start
+pub record Completed (F : Ops) (m n c k : ℕ) (start xs : List ℕ) : Type 0 where
+  pub frame : IsFrame F m n c xs
+  pub front : (p : ℕ) → p < k * m → getD xs p 0 ≡ getD start p 0

@@ -1,4 +1,5 @@
 // The published code: check sums, and the frame of a record.
+mod encoder;
 mod power_sums;
 mod syndromes;
 mod table;
