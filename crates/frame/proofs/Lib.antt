@@ -6,3 +6,5 @@ pub mod Solves
 pub mod Columns
 pub mod Checks
 pub mod Completes
+pub mod Sizes
+pub mod Begins

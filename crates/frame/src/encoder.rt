@@ -1,17 +1,24 @@
 // The frame of a record.
 ghost use mathlib.Core.Path.{_≡_};
 ghost use mathlib.Core.Bool.{true, false};
-ghost use mathlib.Core.List.{[], _∷_};
+ghost use mathlib.Core.List.{List};
 ghost use Prim.Native.Nat.{ℕ, _+_, _*_, _<_, _≤_};
 ghost use lib.ListN.{length, getD};
 ghost use Rattle.refusal.specs.Codes.{Below};
 ghost use Rattle.laws.specs.Ops.{Ops, Laws};
+ghost use Rattle.std.specs.declared.result.Result.the-variants.{Ok, Err};
+ghost use Rattle.geometry.specs.Rule.{Rule};
+ghost use Rattle.algebra.specs.Frames.{IsRecord, FrameOf};
 ghost use Rattle.solver.specs.Sums.{Apart};
+ghost use Rattle.frame.specs.Encodes.{Encodes};
 ghost use Rattle.frame.specs.Tables.{Powers, Check-columns, Check-strips, Completed};
+use crate::power_sums::powers;
 use crate::syndromes::check_sums;
 use crate::table::scatter_row;
 use crate::table::solve_strips;
 use field::Field;
+use geometry::Geometry;
+use refusal::Refusal;
 use solver::solve;
 
 // Each symbol with its sign turned.
@@ -118,4 +125,145 @@ fn complete<F: Field>(
         &mut frame[k * m..],
         values,
     );
+}
+
+// The symbols, and then zeros.
+fn begin(symbols: &[u8], frame: &mut [u8])
+    ensures { λ _. ⌜ ((p : ℕ) → p < length (now (frame .entry)) → getD (now (frame .exit)) p 0 ≡ getD (now (symbols .entry)) p 0) ⌝ }
+{
+    for p in 0..frame.len() {
+        frame[p] = if p < symbols.len() { symbols[p] } else { 0 };
+    }
+}
+
+// The frame of a record, with locators and room to work in of just the sizes that the geometry asks for.
+fn lay<F: Field>(
+    m: usize,
+    symbols: &[u8],
+    frame: &mut [u8],
+    strips: &mut [u8],
+    squares: &mut [u8],
+    table: &mut [u8],
+    columns: &mut [u8],
+    row: &mut [u8],
+    work: &mut [u8],
+    values: &mut [u8],
+)
+    requires rule { ⌜ Rule (F·Field .ops .order) m (length (now row)) (length (now values)) ⌝ }
+    requires written { ⌜ IsRecord (F·Field .ops) m (length (now row)) (length (now values)) (now symbols) ⌝ }
+    requires frame_size { ⌜ length (now frame) ≡ length (now row) * m ⌝ }
+    requires strips_size { ⌜ length (now strips) ≡ length (now row) ⌝ }
+    requires squares_size { ⌜ length (now squares) ≡ length (now row) * m ⌝ }
+    requires table_size { ⌜ length (now table) ≡ m * length (now values) ⌝ }
+    requires columns_size { ⌜ length (now columns) ≡ length (now row) * m ⌝ }
+    requires work_size { ⌜ length (now work) ≡ m ⌝ }
+    ensures frame { λ _. ⌜ FrameOf (F·Field .ops) m (length (now (row .entry))) (length (now (values .entry))) (now (symbols .entry)) (now (frame .exit)) ⌝ }
+{
+    begin(symbols, frame);
+    powers::<F>(F::root(), strips);
+    powers::<F>(F::root(), squares);
+    let k = row.len() - values.len();
+    complete::<F>(
+        m,
+        k,
+        strips,
+        squares,
+        frame,
+        table,
+        columns,
+        row,
+        work,
+        values,
+    );
+}
+
+// `write`, with room to work in.
+fn write_in<F: Field>(
+    m: usize,
+    n: usize,
+    c: usize,
+    symbols: &[u8],
+    frame: &mut [u8],
+    room: &mut [u8],
+    more: &mut [u8],
+)
+    requires rule { ⌜ Rule (F·Field .ops .order) m n c ⌝ }
+    requires written { ⌜ IsRecord (F·Field .ops) m n c (now symbols) ⌝ }
+    requires size { ⌜ length (now frame) ≡ n * m ⌝ }
+    requires scratch { ⌜ length (now room) ≡ 1024 ⌝ ∗ ⌜ length (now more) ≡ 1024 ⌝ }
+    ensures frame { λ _. ⌜ FrameOf (F·Field .ops) m n c (now (symbols .entry)) (now (frame .exit)) ⌝ }
+{
+    let s = n * m;
+    let (strips, rest) = room.split_at_mut(n);
+    let (squares, rest) = rest.split_at_mut(s);
+    let (row, rest) = rest.split_at_mut(n);
+    let (columns, _) = rest.split_at_mut(s);
+    let (table, rest) = more.split_at_mut(m * c);
+    let (work, rest) = rest.split_at_mut(m);
+    let (values, _) = rest.split_at_mut(c);
+    lay::<F>(
+        m,
+        symbols,
+        frame,
+        strips,
+        squares,
+        table,
+        columns,
+        row,
+        work,
+        values,
+    );
+}
+
+// The frame of a record whose symbols are codes.
+fn write<F: Field>(m: usize, n: usize, c: usize, symbols: &[u8], frame: &mut [u8])
+    requires rule { ⌜ Rule (F·Field .ops .order) m n c ⌝ }
+    requires written { ⌜ IsRecord (F·Field .ops) m n c (now symbols) ⌝ }
+    requires size { ⌜ length (now frame) ≡ n * m ⌝ }
+    ensures frame { λ _. ⌜ FrameOf (F·Field .ops) m n c (now (symbols .entry)) (now (frame .exit)) ⌝ }
+{
+    let mut room = [0; 1024];
+    let mut more = [0; 1024];
+    write_in::<F>(m, n, c, symbols, frame, &mut room, &mut more);
+}
+
+// Whether every symbol is a code of the field.
+fn all_codes<F: Field>(symbols: &[u8]) -> bool
+    ensures yes { λ r. ⌜ (r ≡ true → Below (F·Field .ops .order) (now (symbols .entry))) ⌝ }
+    ensures no { λ r. ⌜ (r ≡ false → Below (F·Field .ops .order) (now (symbols .entry)) → ⊥) ⌝ }
+{
+    for symbol in symbols {
+        if *symbol as u16 >= F::size() {
+            return false;
+        }
+    }
+    true
+}
+
+/// Fills the buffer with the frame of a record: the one frame that begins with it.
+pub fn encode<F: Field>(
+    geometry: &Geometry,
+    symbols: &[u8],
+    frame: &mut [u8],
+) -> Result<(), Refusal>
+    ensures value { λ r. ⌜ Encodes (F·Field .ops) (now (geometry .entry)) (now (symbols .entry)) (now (frame .entry)) r (now (frame .exit)) ⌝ }
+    ensures only { λ r. ⌜ (r ≡ Ok tt → (xs : List ℕ) → FrameOf (F·Field .ops) (now (geometry .entry) .squares) (now (geometry .entry) .strips) (now (geometry .entry) .checks) (now (symbols .entry)) xs → xs ≡ now (frame .exit)) ⌝ }
+{
+    if geometry.order() != F::size() as usize {
+        return Err(Refusal::Unsuited);
+    }
+    if symbols.len() != geometry.record_size() || frame.len() != geometry.frame_size() {
+        return Err(Refusal::WrongLength);
+    }
+    if !all_codes::<F>(symbols) {
+        return Err(Refusal::BadSymbol);
+    }
+    write::<F>(
+        geometry.squares(),
+        geometry.strips(),
+        geometry.checks(),
+        symbols,
+        frame,
+    );
+    Ok(())
 }

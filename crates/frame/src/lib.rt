@@ -4,6 +4,7 @@ mod power_sums;
 mod syndromes;
 mod table;
 
+pub use encoder::encode;
 pub use power_sums::moments;
 pub use power_sums::powers;
 pub use syndromes::check_sums;

@@ -78,8 +78,8 @@ returns g c =
     let long = same-len-mid (k * m) (length frame - k * m) frame tail (c .fill-checks .kept .strips) in
     record {
       value = completed F L m n v k (c .pre .checks) strips squares frame (c .check-sums .last .table) tail (putMid (k * m) (length frame - k * m) frame tail)
-        (c .pre .strips) (c .pre .squares) (c .pre .strips-size) (c .pre .squares-size) (c .pre .frame-size) (long ∙ c .pre .frame-size) (c .pre .below) (c .pre .blank)
-        (c .check-sums .ensures .value) (c .fill-checks .ensures .value) size
-        (λ p l. put-before (k * m) (length frame - k * m) frame tail p l (omega (arith, c .pre .frame-size)))
-        (λ p l. put-in (k * m) (length frame - k * m) frame tail p (omega arith) (omega (arith, c .pre .frame-size)));
+          (c .pre .strips) (c .pre .squares) (c .pre .strips-size) (c .pre .squares-size) (c .pre .frame-size) (long ∙ c .pre .frame-size) (c .pre .below) (c .pre .blank)
+          (c .check-sums .ensures .value) (c .fill-checks .ensures .value) size
+          (λ p l. put-before (k * m) (length frame - k * m) frame tail p l (omega (arith, c .pre .frame-size)))
+          (λ p l. put-in (k * m) (length frame - k * m) frame tail p (omega arith) (omega (arith, c .pre .frame-size)));
     }
