@@ -72,7 +72,8 @@ impl Geometry {
     pub fn frame_size(&self) -> usize
         ensures { λ r. ⌜ r ≡ now (self .entry) .strips * now (self .entry) .squares ⌝ }
     {
-        self.strips * self.squares
+        let Geometry { strips, squares, .. } = *self;
+        strips * squares
     }
 
     /// How many symbols a record has: those of the strips that are no checks.
