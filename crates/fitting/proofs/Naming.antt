@@ -1,17 +1,17 @@
 -- The fewest wrong strips: the strips with the fewest changes are left out first. None can do with fewer, since up to an edge
 -- all strips are left out, from it on all are named wrong, and what is left of the budget is below the edge. Assumes nothing.
 use mathlib.Core.Path.{_≡_, refl, sym, ap, _∙_}
-use mathlib.Core.Logic.{_⊎_, inl, inr}
+use mathlib.Core.Logic.{inl, inr}
 use mathlib.Core.Bool.{Bool, true, false, cond, not, _&&_}
 use Prim.Native.Nat.{ℕ, zero, suc, _+_, _-_, _*_, _<_, _≤_}
-use native.Mathlib.Nat.{mul-add, add-mul, mul-le-mul-left, mul-suc, mul-one, mul-zero, suc-mul, one-mul, mul-le-mul-right, zero-mul}
+use native.Mathlib.Nat.{mul-add, mul-le-mul-left, mul-suc, mul-one, mul-zero, suc-mul, one-mul, mul-le-mul-right, zero-mul}
 use native.Mathlib.Numerals.{add-one}
 use native.Mathlib.Omega.{arith}
-use lib.Dec.{eqb, ltb}
-use Rattle.std.proofs.shelf.Tests.{cases-bool, cases-lt, cases-eq, eqb-true, eqb-false, eq-eqb, ne-eqb, ltb-true, ltb-false, lt-ltb, le-ltb}
+use lib.Dec.{eqb}
+use Rattle.std.proofs.shelf.Tests.{cases-bool, cases-lt, cases-eq, eqb-true, eqb-false, eq-eqb, lt-ltb, le-ltb}
 use Rattle.algebra.specs.Showings.{count}
-use Rattle.fitting.specs.Wrong.{total, left-out, Naming, Fewest, Spared, Stage}
-use Rattle.fitting.proofs.Counting.{count-true, count-false, count-le, count-room, first}
+use Rattle.fitting.specs.Wrong.{total, left-out, Fewest, Spared, Stage}
+use Rattle.fitting.proofs.Counting.{count-true, count-false, count-room, first}
 
 never : {X : Type 0} → true ≡ false → X
 never e = let z : _≡_ {A = ℕ} 0 1 = cc in absurd (omega arith)

@@ -19,7 +19,7 @@ pub struct Counts {
     pub changed: usize,
 }
 
-// How many marks are not 0.
+/// How many marks are not 0.
 pub fn count_marked(marks: &[u8]) -> usize
     ensures { λ r. ⌜ r ≡ count (length (now (marks .entry))) (marked (now (marks .entry))) ⌝ }
 {
@@ -103,7 +103,7 @@ pub fn changed_in(
     all
 }
 
-// How many squares are doubtful.
+// How many squares are doubtful. Shared with the corrector, which has tested the lengths.
 pub fn count_doubtful(
     order: usize,
     squares: usize,
@@ -121,7 +121,7 @@ pub fn count_doubtful(
     all
 }
 
-// How many clear squares differ from what is shown.
+// How many clear squares differ from what is shown. Shared with the corrector, which has tested the lengths.
 pub fn count_changed(
     order: usize,
     squares: usize,

@@ -4,7 +4,6 @@ ghost use Prim.Native.Nat.{_*_, _≤_};
 ghost use lib.ListN.{length};
 ghost use Rattle.std.specs.Results.{Cases};
 ghost use Rattle.refusal.specs.Outcome.{Outcome};
-ghost use Rattle.laws.specs.Ops.{Ops};
 ghost use Rattle.algebra.specs.Showings.{reading};
 ghost use Rattle.fitting.specs.Marks.{shown-by, silent-limit};
 ghost use Rattle.fitting.specs.Wrong.{Budget};
@@ -30,7 +29,7 @@ fn silent_budget(limit: usize, squares: usize, doubtful: usize) -> usize
     if limit < room { limit } else { room }
 }
 
-// `fits` under any silent limit, where the lengths have been tested. Shared with the corrector.
+// `fits` under any silent limit. Shared with the corrector, which has tested the field and the lengths.
 pub fn weigh_fit(
     geometry: &Geometry,
     limit: usize,

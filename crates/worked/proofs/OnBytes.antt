@@ -1,9 +1,9 @@
 -- The worked frames of bytes: each by a computed test, and that no record fits by one test at every record, since every frame is
 -- a multiple of one. Assumes nothing.
-use mathlib.Core.Path.{_≡_, refl, sym, ap, subst, _∙_}
-use mathlib.Core.Bool.{Bool, true, false}
+use mathlib.Core.Path.{_≡_, refl, subst}
+use mathlib.Core.Bool.{Bool}
 use mathlib.Core.List.{List, [], _∷_}
-use Prim.Native.Nat.{ℕ, zero, suc, _+_, _*_, _<_, _≤_}
+use Prim.Native.Nat.{ℕ, _<_, _≤_}
 use native.Mathlib.Omega.{arith}
 use lib.Dec.{T, eqb, ltb, ltb→lt, lit<, lit≤}
 use lib.ListN.{length, getD, take}
@@ -15,8 +15,7 @@ use Rattle.geometry.specs.Rule.{Rule}
 use Rattle.algebra.specs.Frames.{IsFrame, FrameOf}
 use Rattle.algebra.specs.Showings.{Showing, reading, changed-squares, Fits}
 use Rattle.algebra.proofs.Fitting.{frame-unique}
-use Rattle.worked.specs.Answers.{Reads, Fits-none}
-use Rattle.worked.specs.List.{Byte-frame, clear}
+use Rattle.worked.specs.List.{Byte-frame, Bytes-read, Bytes-fit-none, clear}
 use Rattle.worked.proofs.Tested.{balanced, coded, tested, fits, changed-most}
 
 byte-frame : (symbols xs : List ℕ) → length xs ≡ 4 → T (coded bytes xs) → T (balanced bytes 1 4 3 xs) → take 1 xs ≡ symbols → FrameOf bytes 1 4 3 symbols xs
@@ -30,7 +29,7 @@ eight = byte-frame (0x08 ∷ []) (0x08 ∷ 0x0E ∷ 0x07 ∷ 0x01 ∷ []) refl t
 third : ℕ → Bool
 third j = eqb j 2
 
-pub wrong-strip : Reads bytes 1 4 3 (clear (0x08 ∷ 0x0E ∷ 0xFF ∷ 0x01 ∷ [])) (0x08 ∷ []) 0 0 1
+pub wrong-strip : Bytes-read (0x08 ∷ 0x0E ∷ 0xFF ∷ 0x01 ∷ []) (0x08 ∷ []) 0 0 1
 unfolding third
 wrong-strip = record {
   frame = 0x08 ∷ 0x0E ∷ 0x07 ∷ 0x01 ∷ [];
@@ -82,6 +81,6 @@ none-fits w t symbols xs f p =
     let near : changed-squares 1 4 (reading 256 w) (multiple a) ≤ 1 = one-change (reading 256 w) (multiple a) (subst (Fits 1 1 4 3 (reading 256 w)) (is-multiple xs (f .frame)) p) in
     omega arith
 
-pub two-strips : Fits-none bytes 1 4 3 (clear (0x08 ∷ 0x00 ∷ 0xFF ∷ 0x01 ∷ []))
+pub two-strips : Bytes-fit-none (0x08 ∷ 0x00 ∷ 0xFF ∷ 0x01 ∷ [])
 unfolding product
 two-strips = record { gone = lit< tt; doubtful = lit≤ tt; none = none-fits (clear (0x08 ∷ 0x00 ∷ 0xFF ∷ 0x01 ∷ [])) tt }

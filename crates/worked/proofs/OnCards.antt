@@ -1,24 +1,22 @@
 -- The worked cards: each by a computed test, and that no record fits by one test at every record, since frames are sums of
 -- multiples of two. Assumes nothing.
-use mathlib.Core.Path.{_≡_, refl, sym, ap, subst, _∙_}
-use mathlib.Core.Bool.{Bool, true, false}
+use mathlib.Core.Path.{_≡_, refl, subst}
+use mathlib.Core.Bool.{Bool, false}
 use mathlib.Core.List.{List, [], _∷_}
-use Prim.Native.Nat.{ℕ, zero, suc, _+_, _*_, _<_, _≤_}
+use Prim.Native.Nat.{ℕ, _<_, _≤_}
 use native.Mathlib.Omega.{arith}
-use lib.Dec.{T, eqb, ltb, ltb→lt, lit<, lit≤}
+use lib.Dec.{T, ltb, ltb→lt, lit<, lit≤}
 use lib.ListN.{length, getD, take}
 use Rattle.laws.specs.Instances.{mod37}
 use Rattle.laws.proofs.Fields.{mod37-laws}
 use Rattle.laws.proofs.Tests.{all, at2}
 use Rattle.geometry.specs.Rule.{Rule}
 use Rattle.algebra.specs.Frames.{IsFrame, FrameOf}
-use Rattle.algebra.specs.Showings.{Showing, reading, count, silent, gone-strips, doubtful-squares, changed-squares, Fits}
+use Rattle.algebra.specs.Showings.{Showing, reading, changed-squares, Fits}
 use Rattle.algebra.proofs.Fitting.{frame-unique}
-use Rattle.fitting.specs.Marks.{silent-limit}
 use Rattle.worked.specs.Cards.{written, pictured}
-use Rattle.worked.specs.Answers.{Reads, Fits-none}
-use Rattle.worked.specs.List.{Card-frame, Card-reads}
-use Rattle.worked.proofs.Tested.{balanced, coded, tested, fitting, fits, changed-most}
+use Rattle.worked.specs.List.{Card-frame, Card-reads, Card-fits-none}
+use Rattle.worked.proofs.Tested.{balanced, coded, tested, fits, changed-most}
 
 pub card-frame : (symbols xs : List ℕ) → length xs ≡ 6 → T (coded mod37 xs) → T (balanced mod37 2 3 2 xs) → take 2 xs ≡ symbols → FrameOf mod37 2 3 2 symbols xs
 card-frame symbols xs e t s b = record { frame = tested mod37 2 3 2 xs e t s; begins = b }
@@ -109,8 +107,8 @@ none-fits w t symbols xs f p =
     let near : changed-squares 2 3 (reading 37 w) (mixed a b) ≤ 1 = one-change (reading 37 w) (mixed a b) (subst (Fits 1 2 3 2 (reading 37 w)) (is-mixed xs (f .frame)) p) in
     omega arith
 
-pub both-checks : Fits-none mod37 2 3 2 (pictured 2 "10 2G G4")
+pub both-checks : Card-fits-none "10 2G G4"
 both-checks = record { gone = lit< tt; doubtful = lit≤ tt; none = none-fits (pictured 2 "10 2G G4") tt }
 
-pub beside-gone : Fits-none mod37 2 3 2 (pictured 2 "-- 99 G3")
+pub beside-gone : Card-fits-none "-- 99 G3"
 beside-gone = record { gone = lit< tt; doubtful = lit≤ tt; none = none-fits (pictured 2 "-- 99 G3") tt }

@@ -1,17 +1,15 @@
 -- Frames and fits of known numbers by computed tests, and a bound on how much a fitting frame differs. Assumes nothing.
-use mathlib.Core.Path.{_≡_, refl, sym, ap, _∙_}
-use mathlib.Core.Logic.{_⊎_, inl, inr}
+use mathlib.Core.Path.{_≡_, refl}
 use mathlib.Core.Bool.{Bool, true, false, cond, not, _||_}
-use mathlib.Core.List.{List, [], _∷_}
-use Prim.Native.Nat.{ℕ, zero, suc, _+_, _*_, _<_, _≤_}
-use native.Mathlib.Nat.{mul-add, mul-one, mul-zero, zero-mul}
+use mathlib.Core.List.{List, []}
+use Prim.Native.Nat.{ℕ, zero, suc, _+_, _*_, _≤_}
+use native.Mathlib.Nat.{mul-add, mul-one, mul-zero}
 use native.Mathlib.Omega.{arith}
 use lib.Dec.{T, eqb, ltb, leb, ltb→lt, leb→le, eqb→eq}
-use lib.ListN.{length, getD, take}
-use Rattle.std.proofs.shelf.Tests.{cases-bool}
+use lib.ListN.{length, getD}
 use Rattle.laws.specs.Ops.{Ops}
-use Rattle.laws.proofs.Tests.{both, all, at, at2, both-parts}
-use Rattle.algebra.specs.Frames.{IsFrame, FrameOf, check-sum, record-size}
+use Rattle.laws.proofs.Tests.{both, all, at, both-parts}
+use Rattle.algebra.specs.Frames.{IsFrame, check-sum}
 use Rattle.algebra.specs.Showings.{Showing, count, differs, silent, gone-strips, doubtful-squares, changed-squares, Fits}
 use Rattle.fitting.specs.Wrong.{total, changes, left-out}
 use Rattle.fitting.proofs.Counting.{count-le, count-blocks}

@@ -2,10 +2,11 @@
 -- square. Strips may be set apart by spaces.
 --   character   the code of a character
 --   unspaced    the characters but the spaces
+--   coded       the codes of characters
 --   written     the codes of a text
 --   pictured    what a text shows, with m squares in a strip
 -- Assumes nothing.
-use mathlib.Core.Bool.{Bool, cond}
+use mathlib.Core.Bool.{cond}
 use mathlib.Core.List.{List, [], _∷_}
 use Prim.Native.Nat.{ℕ, _-_, _*_}
 use Prim.Native.String.{String}

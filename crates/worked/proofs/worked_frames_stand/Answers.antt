@@ -20,7 +20,7 @@ returns c = record {
   changed-strip-beside-a-gone-one-fits-none = beside-gone;
   byte-has-frame = eight;
   wrong-strip-is-read = wrong-strip;
-  wrong-strips-of-half-the-frame-fit-none = two-strips;
+  changes-in-half-the-strips-fit-none = two-strips;
   longest-byte-geometry = (lit≤ tt, lit≤ tt, lit< tt, lit< tt);
   geometry-of-all-codes-is-none = λ k r. omega (arith, r .3);
 }

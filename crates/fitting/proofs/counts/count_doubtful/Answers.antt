@@ -1,11 +1,9 @@
-use Prim.Native.Nat.{ℕ, _+_, _*_}
 use native.Mathlib.Omega.{arith}
 use native.Mathlib.Nat.{zero-mul}
-use mathlib.Core.Path.{_≡_, sym, ap, _∙_}
+use mathlib.Core.Path.{sym, ap}
 use lib.ListN.{length}
 use Rattle.algebra.specs.Showings.{Showing, reading, doubt, count}
 use Rattle.fitting.specs.Marks.{shown-by}
-use Rattle.fitting.proofs.Counting.{count-le}
 use Rattle.fitting.proofs.Strips.{strip-more, strip-room}
 use Rattle.fitting.proofs.counts.count_doubtful.Needs as need
 

@@ -1,8 +1,7 @@
-use mathlib.Core.Path.{_≡_, sym, _∙_}
-use Prim.Native.Nat.{ℕ, _+_, _*_, _<_, _≤_}
+use Prim.Native.Nat.{ℕ, _+_, _*_, _<_}
 use native.Mathlib.Omega.{arith}
 use lib.ListN.{length}
-use Rattle.algebra.specs.Showings.{Showing, reading, gone-strips, doubtful-squares, changed-squares}
+use Rattle.algebra.specs.Showings.{Showing, reading}
 use Rattle.fitting.specs.Marks.{shown-by}
 use Rattle.fitting.specs.Decision.{Counted}
 use Rattle.fitting.proofs.Deciding.{moved, weighed-fit, weighed-none, weighed-room, strips-few}

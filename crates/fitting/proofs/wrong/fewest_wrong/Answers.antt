@@ -1,9 +1,9 @@
-use mathlib.Core.Path.{_≡_, sym, ap, subst, _∙_}
+use mathlib.Core.Path.{_≡_, ap, subst}
 use Prim.Native.Nat.{ℕ, _+_, _-_}
 use native.Mathlib.Omega.{arith}
 use lib.Dec.{eqb}
 use lib.ListN.{length}
-use Rattle.algebra.specs.Showings.{reading, count}
+use Rattle.algebra.specs.Showings.{reading}
 use Rattle.fitting.specs.Marks.{shown-by}
 use Rattle.fitting.specs.Wrong.{changes, Stage, Spared}
 use Rattle.fitting.proofs.Counting.{count-le}

@@ -1,4 +1,3 @@
-use mathlib.Core.Path.{_≡_}
 use lib.ListN.{length}
 use Rattle.algebra.specs.Showings.{reading}
 use Rattle.fitting.specs.Marks.{shown-by}
