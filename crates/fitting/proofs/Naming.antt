@@ -108,42 +108,42 @@ first-all p k (suc n) l = elim (cases-bool (p n)) [
   | inr e ↦ (let s = count-false p n e in omega (arith, first-all p k n (omega arith), count-false (first p k) n (first-off p k n e)))
 ]
 
+of-size : (ℕ → ℕ) → ℕ → ℕ → Bool
+of-size d s j = eqb (d j) s
+
 -- the first k strips of size s are left out too
 module _ (d : ℕ → ℕ) (wrong : ℕ → Bool) (s k : ℕ) where
-  of-size : ℕ → Bool
-  of-size j = eqb (d j) s
-
   after : ℕ → Bool
-  after j = wrong j && not (first of-size k j)
+  after j = wrong j && not (first (of-size d s) k j)
 
-  after-out : (j : ℕ) → first of-size k j ≡ true → after j ≡ false
+  after-out : (j : ℕ) → first (of-size d s) k j ≡ true → after j ≡ false
   unfolding after
   after-out j e = elim (cases-bool (wrong j)) [ inl h ↦ cc | inr h ↦ cc ]
 
-  after-same : (j : ℕ) → first of-size k j ≡ false → after j ≡ wrong j
+  after-same : (j : ℕ) → first (of-size d s) k j ≡ false → after j ≡ wrong j
   unfolding after
   after-same j e = elim (cases-bool (wrong j)) [ inl h ↦ cc | inr h ↦ cc ]
 
-  size-is : (j : ℕ) → first of-size k j ≡ true → d j ≡ s
+  size-is : (j : ℕ) → first (of-size d s) k j ≡ true → d j ≡ s
   unfolding of-size
-  size-is j e = eqb-true (d j) s (first-passes of-size k j e)
+  size-is j e = eqb-true (d j) s (first-passes (of-size d s) k j e)
 
-  after-count : (n : ℕ) → ((j : ℕ) → j < n → d j ≡ s → wrong j ≡ true) → count n after + count n (first of-size k) ≡ count n wrong
+  after-count : (n : ℕ) → ((j : ℕ) → j < n → d j ≡ s → wrong j ≡ true) → count n after + count n (first (of-size d s) k) ≡ count n wrong
   after-count zero all = refl
   after-count (suc n) all =
       let ih = after-count n (λ j l. all j (omega arith)) in
-      elim (cases-bool (first of-size k n)) [
-        | inl e ↦ omega (arith, count-true (first of-size k) n e, count-false after n (after-out n e), count-true wrong n (all n (omega arith) (size-is n e)))
-        | inr e ↦ omega (arith, count-false (first of-size k) n e, ap (λ b. cond {A = ℕ} b 1 0) (after-same n e))
+      elim (cases-bool (first (of-size d s) k n)) [
+        | inl e ↦ omega (arith, count-true (first (of-size d s) k) n e, count-false after n (after-out n e), count-true wrong n (all n (omega arith) (size-is n e)))
+        | inr e ↦ omega (arith, count-false (first (of-size d s) k) n e, ap (λ b. cond {A = ℕ} b 1 0) (after-same n e))
       ]
 
-  after-total : (n : ℕ) → ((j : ℕ) → j < n → d j ≡ s → wrong j ≡ true) → total n (left-out d after) ≡ total n (left-out d wrong) + count n (first of-size k) * s
+  after-total : (n : ℕ) → ((j : ℕ) → j < n → d j ≡ s → wrong j ≡ true) → total n (left-out d after) ≡ total n (left-out d wrong) + count n (first (of-size d s) k) * s
   after-total zero all = omega (arith, zero-mul s)
   after-total (suc n) all =
       let ih = after-total n (λ j l. all j (omega arith)) in
-      elim (cases-bool (first of-size k n)) [
-        | inl e ↦ omega (arith, size-is n e, ap (λ b. cond b 0 (d n)) (after-out n e), ap (λ b. cond b 0 (d n)) (all n (omega arith) (size-is n e)), ap (λ z. z * s) (count-true (first of-size k) n e ∙ add-one (count n (first of-size k))), suc-mul (count n (first of-size k)) s)
-        | inr e ↦ omega (arith, ap (λ b. cond b 0 (d n)) (after-same n e), ap (λ z. z * s) (count-false (first of-size k) n e))
+      elim (cases-bool (first (of-size d s) k n)) [
+        | inl e ↦ omega (arith, size-is n e, ap (λ b. cond b 0 (d n)) (after-out n e), ap (λ b. cond b 0 (d n)) (all n (omega arith) (size-is n e)), ap (λ z. z * s) (count-true (first (of-size d s) k) n e ∙ add-one (count n (first (of-size d s) k))), suc-mul (count n (first (of-size d s) k)) s)
+        | inr e ↦ omega (arith, ap (λ b. cond b 0 (d n)) (after-same n e), ap (λ z. z * s) (count-false (first (of-size d s) k) n e))
       ]
 
 module _ (d : ℕ → ℕ) (n budget s t rest k : ℕ) where
@@ -171,16 +171,16 @@ module _ (d : ℕ → ℕ) (n budget s t rest k : ℕ) where
         })
     | inl x ↦ (
         let all : (j : ℕ) → j < n → d j ≡ s → g .wrong j ≡ true = λ j l e. elim (cases-bool (g .wrong j)) [ inl y ↦ y | inr y ↦ absurd (omega (arith, x .1 j l y)) ] in
-        let few : count n (first (of-size d (g .wrong) s k) k) ≡ k = first-all (of-size d (g .wrong) s k) k n (h .enough) in
-        let paid : count n (first (of-size d (g .wrong) s k) k) * s ≡ k * s = ap (λ z. z * s) few in
+        let few : count n (first (of-size d s) k) ≡ k = first-all (of-size d s) k n (h .enough) in
+        let paid : count n (first (of-size d s) k) * s ≡ k * s = ap (λ z. z * s) few in
         let none : 1 ≤ s = omega (arith, g .least, x .0) in
         let number : count n (after d (g .wrong) s k) ≡ t - k = omega (arith, after-count d (g .wrong) s k n all, g .number) in
         let spent : total n (left-out d (after d (g .wrong) s k)) + (rest - k * s) ≡ budget = omega (arith, after-total d (g .wrong) s k n all, g .spent, h .paid) in
-        let over : (j : ℕ) → j < n → after d (g .wrong) s k j ≡ true → s ≤ d j = λ j l e. elim (cases-bool (first (of-size d (g .wrong) s k) k j)) [
+        let over : (j : ℕ) → j < n → after d (g .wrong) s k j ≡ true → s ≤ d j = λ j l e. elim (cases-bool (first (of-size d s) k j)) [
           | inl y ↦ never (sym e ∙ after-out d (g .wrong) s k j y)
           | inr y ↦ omega (arith, x .0, g .over j l (sym (after-same d (g .wrong) s k j y) ∙ e))
         ] in
-        let under : (j : ℕ) → j < n → after d (g .wrong) s k j ≡ false → d j ≤ s = λ j l e. elim (cases-bool (first (of-size d (g .wrong) s k) k j)) [
+        let under : (j : ℕ) → j < n → after d (g .wrong) s k j ≡ false → d j ≤ s = λ j l e. elim (cases-bool (first (of-size d s) k j)) [
           | inl y ↦ omega (arith, size-is d (g .wrong) s k j y)
           | inr y ↦ omega (arith, x .1 j l (sym (after-same d (g .wrong) s k j y) ∙ e))
         ] in
@@ -193,7 +193,7 @@ module _ (d : ℕ → ℕ) (n budget s t rest k : ℕ) where
             edge = s + 1;
             least = omega arith;
             over = λ j l e. elim (cases-eq (d j) s) [
-              | inl q ↦ (let r = count-room (of-size d (g .wrong) s k) j n l (eq-eqb (d j) s q) in never (sym e ∙ after-out d (g .wrong) s k j (first-on (of-size d (g .wrong) s k) k j (eq-eqb (d j) s q) (omega (arith, y)))))
+              | inl q ↦ (let r = count-room (of-size d s) j n l (eq-eqb (d j) s q) in never (sym e ∙ after-out d (g .wrong) s k j (first-on (of-size d s) k j (eq-eqb (d j) s q) (omega (arith, y)))))
               | inr q ↦ omega (arith, over j l e)
             ];
             under = λ j l e. omega (arith, under j l e);
@@ -209,6 +209,6 @@ module _ (d : ℕ → ℕ) (n budget s t rest k : ℕ) where
     | inr x ↦ omega (arith, too-dear h (omega (arith, x .0, x .1)))
     | inl x ↦ (
         let all : (j : ℕ) → j < n → d j ≡ s → g .wrong j ≡ true = λ j l e. elim (cases-bool (g .wrong j)) [ inl y ↦ y | inr y ↦ absurd (omega (arith, x .1 j l y)) ] in
-        let few : count n (first (of-size d (g .wrong) s k) k) ≡ k = first-all (of-size d (g .wrong) s k) k n (h .enough) in
+        let few : count n (first (of-size d s) k) ≡ k = first-all (of-size d s) k n (h .enough) in
         omega (arith, after-count d (g .wrong) s k n all, g .number))
   ]

@@ -1,5 +1,5 @@
 -- The squares of one strip: a strip that is gone counts for nothing, and one that is not counts by its squares. Assumes nothing.
-use mathlib.Core.Path.{_≡_, ap, _∙_}
+use mathlib.Core.Path.{_≡_, sym, ap, _∙_}
 use mathlib.Core.Bool.{Bool, true, false, not, _&&_}
 use mathlib.Core.List.{List}
 use Prim.Native.Nat.{ℕ, suc, _+_, _*_, _/_, _<_, _≤_}
@@ -18,6 +18,13 @@ on x d = ap not (ne-eqb x 0 d)
 
 pub off : (x : ℕ) → x ≡ 0 → not (eqb x 0) ≡ false
 off x e = ap not (eq-eqb x 0 e)
+
+-- a number that was found, held to another
+pub found-equal : (r x s : ℕ) → r ≡ x → r ≡ s → eqb x s ≡ true
+found-equal r x s e h = eq-eqb x s (sym e ∙ h)
+
+pub found-apart : (r x s : ℕ) → r ≡ x → (r ≡ s → ⊥) → eqb x s ≡ false
+found-apart r x s e h = ne-eqb x s (λ z. h (e ∙ z))
 
 pub one-more : (p : ℕ → Bool) (i a b : ℕ) → a ≡ count i p → p i ≡ true → b ≡ a + 1 → b ≡ count (i + 1) p
 one-more p i a b e h s = rw (add-one i) (omega (arith, count-true p i h))

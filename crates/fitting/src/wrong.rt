@@ -24,7 +24,7 @@ fn strips_with(
 {
     let mut all = 0;
     for strip in 0..strip_marks.len() {
-        if changed_in(
+        let changed = changed_in(
             order,
             squares,
             codes,
@@ -32,9 +32,8 @@ fn strips_with(
             square_marks,
             frame,
             strip,
-        )
-            == size
-        {
+        );
+        if changed == size {
             all += 1;
         }
     }
