@@ -1,0 +1,4 @@
+pub mod Lawful
+pub mod Shown
+pub mod Effects
+pub mod Kept
