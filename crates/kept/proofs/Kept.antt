@@ -11,12 +11,12 @@ use Rattle.std.proofs.shelf.Tests.{cases-eq, both-ways}
 use Rattle.std.specs.declared.result.Result.{Result}
 use Rattle.std.specs.declared.result.Result.the-variants.{Ok, Err}
 use Rattle.refusal.specs.declared.Refusal.{Refusal}
-use Rattle.refusal.proofs.Causes.{None, granted}
+use Rattle.refusal.proofs.Causes.{None, granted, ok-not-err}
 use Rattle.medium.specs.Meaning.{Meaning}
 use Rattle.fitting.specs.declared.counts.Counts.{Counts}
 use Rattle.kept.specs.Code.{Code, Lawful, room, counts, Fitting}
 use Rattle.kept.specs.Shows.{shown-of, Shows}
-use Rattle.kept.specs.Calls.{Suits, Too-worn, Reads, Mends, no-read, no-mend}
+use Rattle.kept.specs.Calls.{Suits, Too-worn, Reads, Mends, Copies, no-read, no-mend}
 use Rattle.kept.specs.History.{History, loaded, store, read, mend, copy, wear, Held, Book, entered, accepted, book, Stands, Kept, Reads-kept, Mends-kept}
 use Rattle.kept.proofs.Shown.{shown-beside, shows-exactly}
 use Rattle.kept.proofs.Effects.{Landed, Effect, Moved, never-unshown, store-effect, mend-effect, copy-effect, suits}
@@ -106,8 +106,20 @@ module _ (K : Code) (laws : Lawful K) where
         },
       )
 
+  copied : {start v w : Meaning} (h : History K start v) (from to : ℕ) (a : Counts) (o : Copies K v from to (Ok a) w)
+      → (rec : List ℕ) × Held K v from rec × book (copy h from to (Ok a) o) to rec
+  copied {v = v} {w = w} h from to a o = elim (copy-effect K v w from to (Ok a) o) [
+    | inl x ↦ absurd (ok-not-err (Ok a) refl (x .1))
+    | inr y ↦ (let held : Held K v from (y .3 .0) = (y .1, y .3 .1) in (y .3 .0, held, inl (refl, held)))
+  ]
+
   pub kept : Kept K
-  kept = record { one = λ {start} {w} h f rec sec b b'. one-held w f rec sec (safe h f rec b .1) (safe h f sec b' .1); stands = stands }
+  kept = record {
+    one = λ {start} {w} h f rec sec b b'. one-held w f rec sec (safe h f rec b .1) (safe h f sec b' .1);
+    stands = stands;
+    stored = λ h f rec o. inl (refl, refl);
+    copied = copied;
+  }
 
   pub reads-kept : (w w' : Meaning) (f : ℕ) (out out' : List ℕ) (r : Result Counts Refusal) → Reads K w f out r out' w' → Reads-kept K w f out r out'
   reads-kept w w' f out out' r o start h rec b long =

@@ -10,7 +10,8 @@
 --   Stands    of a record and its frame xs at the number f: xs fits what f shows; a read with a buffer of the right length
 --             returns the record and its three counts; a mend of f while it is open is granted, answers the same counts, and
 --             leaves no strip of f gone and each square clear, coded as in xs
---   Kept      the book has at most one record for each number, and each of them stands
+--   Kept      the book has at most one record for each number, and each of them stands; after an accepted store it has the
+--             record that was stored, after an accepted copy the record that the source held
 --   Reads-kept, Mends-kept   the same of one read and of one mend, after every history that ends in the present meaning
 -- Assumes nothing.
 use mathlib.Core.Path.{_≡_}
@@ -67,6 +68,9 @@ pub record Stands (K : Code) (w : Meaning) (f : ℕ) (rec xs : List ℕ) : Type 
 pub record Kept (K : Code) : Type 0 where
   pub one : {start w : Meaning} (h : History K start w) (f : ℕ) (rec sec : List ℕ) → book h f rec → book h f sec → rec ≡ sec
   pub stands : {start w : Meaning} (h : History K start w) (f : ℕ) (rec : List ℕ) → book h f rec → (xs : List ℕ) × Stands K w f rec xs
+  pub stored : {start v w : Meaning} (h : History K start v) (f : ℕ) (rec : List ℕ) (s : Stores K v f rec (Ok tt) w) → book (store h f rec (Ok tt) s) f rec
+  pub copied : {start v w : Meaning} (h : History K start v) (from to : ℕ) (a : Counts) (s : Copies K v from to (Ok a) w)
+      → (rec : List ℕ) × Held K v from rec × book (copy h from to (Ok a) s) to rec
 
 abbrev pub Reads-kept : Code → Meaning → ℕ → List ℕ → Result Counts Refusal → List ℕ → Type 0
 Reads-kept K w f out r out' =
