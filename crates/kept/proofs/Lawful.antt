@@ -15,6 +15,7 @@ use Rattle.algebra.proofs.Clean.{exact-fits}
 use Rattle.fitting.specs.Marks.{silent-limit}
 use Rattle.kept.specs.Code.{Code, Lawful}
 use Rattle.kept.specs.CodeOf.{codeOf}
+use Rattle.kept.proofs.Agree.{agree-gone, agree-doubtful, agree-changed, agree-fits}
 
 module _ (F : Ops) (L : Laws F) (m n c : ℕ) (rule : Rule (F .order) m n c) where
   record-long : (rec xs : List ℕ) → FrameOf F m n c rec xs → length rec ≡ record-size m n c
@@ -33,5 +34,9 @@ module _ (F : Ops) (L : Laws F) (m n c : ℕ) (rule : Rule (F .order) m n c) whe
     one-frame = λ rec xs ys f g. frame-unique F L m n c rule rec xs ys f g;
     one-fit = λ seen rec sec xs ys p q. fit-unique F L m n c rule silent-limit (reading (F .order) seen) xs ys (p .frame .frame) (q .frame .frame) (p .fit) (q .fit);
     fits-few = λ seen rec xs p. (omega (arith, p .fit .strips), omega (arith, p .fit .squares));
+    agree-gone = λ v w a. agree-gone (F .order) m n (rule .0) v w a;
+    agree-doubtful = λ v w a. agree-doubtful (F .order) m n (rule .0) v w a;
+    agree-changed = λ v w a. agree-changed (F .order) m n (rule .0) v w a;
+    agree-fits = λ v w a. agree-fits (F .order) m n (rule .0) v w a silent-limit c;
     exact = λ seen rec xs f s. exact-fits F m n c rule silent-limit seen xs (f .frame) s .fits;
   }

@@ -1,3 +1,4 @@
+pub mod Agree
 pub mod Lawful
 pub mod Shown
 pub mod Effects

@@ -1,6 +1,7 @@
 -- What each of the four calls on a reel does, from the meaning v of its medium to the meaning w, with the answer r.
 --   Suits      the medium has the strips and squares of the code, and levels enough
 --   Too-worn   why what is shown gives no record, in this order
+--   Finds      the array xs is found as the frame of a record that fits what is shown, and its counts are answered
 --   Put        the codes xs are written as frame f, and it is then looked whether f shows them: a is answered, or 10
 --   no-store, no-read, no-mend, no-copy   why the call is refused before it writes, in this order
 --   Stores     writes the frame of a record as frame f
@@ -41,6 +42,9 @@ Too-worn K seen =
     ∷ (TooManyDoubtful, K .m < K .doubtful seen)
     ∷ (NoFit, ((rec xs : List ℕ) → Fitting K seen rec xs → ⊥))
     ∷ []
+
+abbrev pub Finds : Code → Showing → Result Counts Refusal → List ℕ → Type 0
+Finds K seen r xs = Outcome (Too-worn K seen) (Unit {0}) ((rec : List ℕ) × Fitting K seen rec xs × (r ≡ Ok (counts K seen xs))) r
 
 abbrev pub Put : {A : Type 0} → Meaning → ℕ → List ℕ → A → Result A Refusal → Meaning → Type 0
 Put v f xs a r w = Written v f xs w × Outcome ((NotShown, (Shows w f xs → ⊥)) ∷ []) (Unit {0}) (r ≡ Ok a) r

@@ -15,6 +15,7 @@ use lib.ListN.{length, take}
 use Rattle.refusal.specs.Codes.{Below}
 use Rattle.algebra.specs.Showings.{Showing}
 use Rattle.algebra.specs.Statements.{Shows-exactly}
+use Rattle.kept.specs.Shows.{Agree}
 use Rattle.fitting.specs.declared.counts.Counts.{Counts}
 
 pub record Code : Type 1 where
@@ -52,5 +53,10 @@ pub record Lawful (K : Code) : Type 0 where
   pub one-fit : (seen : Showing) (rec sec xs ys : List ℕ) → Fitting K seen rec xs → Fitting K seen sec ys → xs ≡ ys
   -- and where one does, not too much is gone or doubtful
   pub fits-few : (seen : Showing) (rec xs : List ℕ) → Fitting K seen rec xs → (K .gone seen < K .c) × (K .doubtful seen ≤ K .m)
+  -- only the strips and squares that there are count, and of a gone strip no square
+  pub agree-gone : (v w : Showing) → Agree (K .m) (K .n) v w → K .gone v ≡ K .gone w
+  pub agree-doubtful : (v w : Showing) → Agree (K .m) (K .n) v w → K .doubtful v ≡ K .doubtful w
+  pub agree-changed : (v w : Showing) → Agree (K .m) (K .n) v w → (xs : List ℕ) → K .changed v xs ≡ K .changed w xs
+  pub agree-fits : (v w : Showing) → Agree (K .m) (K .n) v w → (xs : List ℕ) → K .fits v xs → K .fits w xs
   -- a frame that is shown exactly fits
   pub exact : (seen : Showing) (rec xs : List ℕ) → K .frame-of rec xs → Shows-exactly (K .m) (K .n) seen xs → K .fits seen xs
