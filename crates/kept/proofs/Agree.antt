@@ -1,19 +1,16 @@
 -- Showings that agree have the same counts and the same fitting frames: each test at a place sees no more than what agrees.
 -- Assumes nothing.
 use mathlib.Core.Path.{_≡_, refl, sym, ap, _∙_}
-use mathlib.Core.Bool.{Bool, true, false, cond, not, _&&_, _||_}
+use mathlib.Core.Bool.{Bool, true, false, not, _&&_, _||_}
 use mathlib.Core.List.{List}
-use Prim.Native.Nat.{ℕ, zero, suc, _+_, _*_, _/_, _<_, _≤_}
+use Prim.Native.Nat.{ℕ, _*_, _/_, _<_, _≤_}
 use native.Mathlib.Nat.{div-lt-iff-lt-mul}
 use native.Mathlib.Omega.{arith}
 use lib.Dec.{eqb, ltb}
 use lib.ListN.{getD}
 use Rattle.algebra.specs.Showings.{Showing, reading, count, doubt, differs, silent, gone-strips, doubtful-squares, changed-squares, Fits}
+use Rattle.fitting.proofs.Counting.{count-same}
 use Rattle.kept.specs.Shows.{Agree}
-
-count-same : (k : ℕ) (s t : ℕ → Bool) → ((i : ℕ) → i < k → s i ≡ t i) → count k s ≡ count k t
-count-same zero s t h = refl
-count-same (suc k) s t h = λ i. count-same k s t (λ j l. h j (omega arith)) i + cond (h k (omega arith) i) 1 0
 
 -- a test of a place that does not look at the squares of a gone strip, nor at the code of a doubtful square
 record Blind (test : Bool → Bool → ℕ → Bool) : Type 0 where

@@ -1,19 +1,19 @@
 -- The published code keeps what a reel takes for granted: from the theory of the code, law by law. Assumes nothing.
-use mathlib.Core.Path.{_≡_, refl, sym, ap, _∙_}
+use mathlib.Core.Path.{_≡_, sym, ap, _∙_}
 use mathlib.Core.List.{List}
-use Prim.Native.Nat.{ℕ, _-_, _*_, _<_, _≤_}
+use Prim.Native.Nat.{ℕ, _-_, _*_, _≤_}
 use native.Mathlib.Nat.{mul-le-mul-right}
 use native.Mathlib.Omega.{arith}
-use lib.ListN.{length, take}
+use lib.ListN.{length}
 use Rattle.std.proofs.shelf.Lists.{length-take-le}
 use Rattle.laws.specs.Ops.{Ops, Laws}
 use Rattle.geometry.specs.Rule.{Rule}
 use Rattle.algebra.specs.Frames.{FrameOf, record-size}
-use Rattle.algebra.specs.Showings.{reading, Fits, gone-strips, doubtful-squares}
+use Rattle.algebra.specs.Showings.{reading}
 use Rattle.algebra.proofs.Fitting.{fit-unique, frame-unique}
 use Rattle.algebra.proofs.Clean.{exact-fits}
 use Rattle.fitting.specs.Marks.{silent-limit}
-use Rattle.kept.specs.Code.{Code, Lawful}
+use Rattle.kept.specs.Code.{Lawful}
 use Rattle.kept.specs.CodeOf.{codeOf}
 use Rattle.kept.proofs.Agree.{agree-gone, agree-doubtful, agree-changed, agree-fits}
 

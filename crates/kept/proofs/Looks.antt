@@ -3,10 +3,10 @@ use mathlib.Core.Path.{_≡_, refl, sym, ap, subst, _∙_}
 use mathlib.Core.Bool.{Bool, true, false, cond}
 use mathlib.Core.List.{List}
 use Prim.Native.Nat.{ℕ, _+_, _*_, _/_, _%_, _<_, _≤_}
-use native.Mathlib.Nat.{suc-mul, add-zero, mod-lt, mod-eq-of-lt, div-add-mod', div-lt-iff-lt-mul, div-eq-of-lt, mul-add-div-right, mul-add-mod-self-right, mul-le-mul-right}
+use native.Mathlib.Nat.{suc-mul, mod-lt, mod-eq-of-lt, div-add-mod', div-lt-iff-lt-mul, mul-add-mod-self-right, mul-le-mul-right}
 use native.Mathlib.Omega.{arith}
 use lib.Dec.{ltb}
-use lib.ListN.{length, getD}
+use lib.ListN.{getD}
 use Rattle.std.proofs.shelf.Tests.{lt-ltb, both-ways}
 use Rattle.std.specs.declared.result.Result.{Result}
 use Rattle.std.specs.declared.result.Result.the-variants.{Ok, Err}
@@ -14,8 +14,9 @@ use Rattle.refusal.specs.declared.Refusal.{Refusal}
 use Rattle.refusal.specs.declared.Refusal.the-variants.{NoSuchPlace}
 use Rattle.algebra.specs.Showings.{Showing}
 use Rattle.medium.specs.declared.medium.Look.{Look}
-use Rattle.medium.specs.declared.medium.Look.the-variants.{Gone, Doubtful, Clear}
+use Rattle.medium.specs.declared.medium.Look.the-variants.{Gone, Clear}
 use Rattle.medium.specs.Meaning.{Meaning, Square, doubtful, clear, lookOn, lookAt, lookOf}
+use Rattle.fitting.proofs.Counting.{strip-of}
 use Rattle.kept.specs.Shows.{unclear, code-on, shown-of, Shows, Agree, Noted}
 use Rattle.kept.specs.Code.{Code, size}
 use Rattle.kept.specs.Calls.{Suits}
@@ -40,9 +41,6 @@ looked K v w f p m r s some e hf hp same is =
 -- square k of strip s stands at place s * m + k
 place : (m n s k : ℕ) → s < n → k < m → s * m + k < n * m
 place m n s k hs hk = let row : s * m + m ≤ n * m = rw suc-mul at (mul-le-mul-right m hs) in omega arith
-
-strip-of : (m s k : ℕ) → k < m → (s * m + k) / m ≡ s
-strip-of m s k l = mul-add-div-right (let z : 0 < m = omega arith in z) s k ∙ ap (λ z. s + z) (div-eq-of-lt l) ∙ add-zero s
 
 square-of : (m s k : ℕ) → k < m → (s * m + k) % m ≡ k
 square-of m s k l = mul-add-mod-self-right s m k ∙ mod-eq-of-lt l

@@ -1,14 +1,12 @@
 -- What a frame shows after a writing: place by place, from the writing's own facts. Assumes nothing.
-use mathlib.Core.Path.{_≡_, refl, sym, ap, subst, _∙_}
+use mathlib.Core.Path.{_≡_, sym, ap, subst, _∙_}
 use mathlib.Core.Logic.{_≢_}
-use mathlib.Core.Bool.{false}
 use mathlib.Core.List.{List}
 use Prim.Native.Nat.{ℕ, _+_, _*_, _/_, _%_, _<_, _≤_}
 use native.Mathlib.Nat.{mod-lt, div-add-mod', div-lt-iff-lt-mul}
 use lib.ListN.{getD}
-use Rattle.algebra.specs.Showings.{Showing}
 use Rattle.algebra.specs.Statements.{Shows-exactly}
-use Rattle.medium.specs.Meaning.{Meaning, Square, clear}
+use Rattle.medium.specs.Meaning.{Meaning, clear}
 use Rattle.medium.specs.Write.{Written}
 use Rattle.kept.specs.Shows.{unclear, code-on, shown-of, Shows}
 

@@ -9,7 +9,8 @@
 --   Moves      writes the frame that fits what `from` shows as frame `to`, unless that is too worn
 --   Mends      writes the fitting frame back in its place
 --   Copies     writes the fitting frame of one number under another
---   Loaded     what a call does on a loaded reel; on a medium that does not suit it answers 2 and leaves all as it was
+--   Loaded     what a call does on a loaded reel; where the order q of the geometry is not that of the field, or the medium does
+--              not suit, it answers 2 and leaves all as it was
 -- A refusal leaves the meaning and the buffer as they were; number 10 leaves every other frame so.
 -- Assumes nothing.
 use mathlib.Core.Path.{_≡_}
@@ -93,5 +94,5 @@ Mends K v f r w = Outcome (no-mend v f) (w ≡ v) (Moves K v f f r w) r
 abbrev pub Copies : Code → Meaning → ℕ → ℕ → Result Counts Refusal → Meaning → Type 0
 Copies K v from to r w = Outcome (no-copy v from to) (w ≡ v) (Moves K v from to r w) r
 
-abbrev pub Loaded : {A : Type 0} → Code → Meaning → Type 0 → Type 0 → Result A Refusal → Type 0
-Loaded K v left does r = Outcome ((Unsuited, (Suits K v → ⊥)) ∷ []) left does r
+abbrev pub Loaded : {A : Type 0} → ℕ → Code → Meaning → Type 0 → Type 0 → Result A Refusal → Type 0
+Loaded q K v left does r = Outcome ((Unsuited, q ≢ K .order) ∷ (Unsuited, (Suits K v → ⊥)) ∷ []) left does r
