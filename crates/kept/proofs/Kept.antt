@@ -124,10 +124,10 @@ module _ (K : Code) (laws : Lawful K) where
   reads-kept w w' f out out' r o start h rec b long =
       let s = stands h f rec b in
       let got = s .1 .reads out out' r w' o long in
-      (s .0, s .1 .fitting .frame, got .0, got .1)
+      (s .0, s .1 .fitting, got .0, got .1)
 
   pub mends-kept : (w w' : Meaning) (f : ℕ) (r : Result Counts Refusal) → Mends K w f r w' → Mends-kept K w f r w'
   mends-kept w w' f r o start h rec b unlocked =
       let s = stands h f rec b in
       let got = s .1 .mends r w' o unlocked in
-      (s .0, s .1 .fitting .frame, got .0, got .1)
+      (s .0, s .1 .fitting, got .0, got .1)

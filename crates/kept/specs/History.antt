@@ -75,9 +75,9 @@ pub record Kept (K : Code) : Type 0 where
 abbrev pub Reads-kept : Code → Meaning → ℕ → List ℕ → Result Counts Refusal → List ℕ → Type 0
 Reads-kept K w f out r out' =
     (start : Meaning) (h : History K start w) (rec : List ℕ) → book h f rec → length out ≡ room K
-    → (xs : List ℕ) × K .frame-of rec xs × (r ≡ Ok (counts K (shown-of w f) xs)) × (out' ≡ rec)
+    → (xs : List ℕ) × Fitting K (shown-of w f) rec xs × (r ≡ Ok (counts K (shown-of w f) xs)) × (out' ≡ rec)
 
 abbrev pub Mends-kept : Code → Meaning → ℕ → Result Counts Refusal → Meaning → Type 0
 Mends-kept K w f r w' =
     (start : Meaning) (h : History K start w) (rec : List ℕ) → book h f rec → w .unlocked f ≡ true
-    → (xs : List ℕ) × K .frame-of rec xs × (r ≡ Ok (counts K (shown-of w f) xs)) × Shows w' f xs
+    → (xs : List ℕ) × Fitting K (shown-of w f) rec xs × (r ≡ Ok (counts K (shown-of w f) xs)) × Shows w' f xs
