@@ -39,7 +39,7 @@ module _ (p : ℕ → Bool) where
   count-blocks m (suc n) = let ih = count-blocks m n in rw (suc-mul n m) (omega (arith, count-add (n * m) m))
 
   -- the first k of those that pass
-  pub first : ℕ → ℕ → Bool
+  unfoldable pub first : ℕ → ℕ → Bool
   first k j = p j && ltb (count j p) k
 
 pub count-same : (k : ℕ) (s t : ℕ → Bool) → ((i : ℕ) → i < k → s i ≡ t i) → count k s ≡ count k t

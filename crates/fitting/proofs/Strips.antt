@@ -11,7 +11,7 @@ use lib.ListN.{getD}
 use Rattle.std.proofs.shelf.Tests.{ne-eqb, eq-eqb}
 use Rattle.algebra.specs.Showings.{Showing, count, doubt, differs}
 use Rattle.fitting.specs.Wrong.{doubts, changes}
-use Rattle.fitting.proofs.Counting.{count-true, count-false, count-never, strip-of}
+use Rattle.fitting.proofs.Counting.{count-true, count-false, count-le, count-add, count-never, strip-of}
 
 pub on : (x : ℕ) → (x ≡ 0 → ⊥) → not (eqb x 0) ≡ true
 on x d = ap not (ne-eqb x 0 d)
@@ -46,3 +46,13 @@ module _ (m : ℕ) (w : Showing) (j : ℕ) where
 
   pub changes-gone : (xs : List ℕ) → w .gone j ≡ true → changes m w xs j ≡ 0
   changes-gone xs e = count-never m (λ κ. differs m w xs (j * m + κ)) (λ κ l. away (w .gone ((j * m + κ) / m)) (not (w .doubtful (j * m + κ)) && not (eqb (getD xs (j * m + κ) 0) (w .shown (j * m + κ)))) (ap (w .gone) (strip-of m j κ l) ∙ e))
+
+-- one strip more
+pub strip-more : (t : ℕ → Bool) (m j : ℕ) → count ((j + 1) * m) t ≡ count (j * m) t + count m (λ κ. t (j * m + κ))
+strip-more t m j = rw (add-one j, suc-mul j m) (count-add t (j * m) m)
+
+-- what has been counted with one strip more is at most all squares
+pub strip-room : (t : ℕ → Bool) (m n j : ℕ) → j < n → count (j * m) t + count m (λ κ. t (j * m + κ)) ≤ n * m
+strip-room t m n j l =
+    let le : suc j * m ≤ n * m = mul-le-mul-right m l in
+    omega (arith, count-add t (j * m) m, count-le t (j * m + m), suc-mul j m)

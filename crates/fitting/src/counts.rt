@@ -4,7 +4,7 @@ ghost use Prim.Native.Nat.{_<_};
 ghost use mathlib.Core.Bool.{not, _&&_, _||_};
 ghost use lib.Dec.{eqb, ltb};
 ghost use lib.ListN.{length};
-ghost use Rattle.algebra.specs.Showings.{reading, count};
+ghost use Rattle.algebra.specs.Showings.{reading, count, doubtful-squares, changed-squares};
 ghost use Rattle.fitting.specs.Marks.{marked, shown-by};
 ghost use Rattle.fitting.specs.Wrong.{Sized, doubts, changes};
 
@@ -88,7 +88,8 @@ pub fn changed_in(
     requires there { ⌜ strip < length (now «strip_marks») ⌝ }
     ensures { λ r. ⌜ r ≡ changes squares (reading order (shown-by (now (codes .entry)) (now («strip_marks» .entry)) (now («square_marks» .entry)))) (now (frame .entry)) strip ⌝ }
 {
-    if strip_marks[strip] != 0 {
+    let mark = strip_marks[strip];
+    if mark != 0 {
         return 0;
     }
     let start = strip * squares;
@@ -98,6 +99,52 @@ pub fn changed_in(
         if is_changed(order, codes[at], square_marks[at], frame[at]) {
             all += 1;
         }
+    }
+    all
+}
+
+// How many squares are doubtful.
+pub fn count_doubtful(
+    order: usize,
+    squares: usize,
+    codes: &[u8],
+    strip_marks: &[u8],
+    square_marks: &[u8],
+) -> usize
+    requires { ⌜ Sized squares (now codes) (now «strip_marks») (now «square_marks») ⌝ }
+    ensures { λ r. ⌜ r ≡ doubtful-squares squares (length (now («strip_marks» .entry))) (reading order (shown-by (now (codes .entry)) (now («strip_marks» .entry)) (now («square_marks» .entry)))) ⌝ }
+{
+    let mut all = 0;
+    for strip in 0..strip_marks.len() {
+        all += doubtful_in(order, squares, codes, strip_marks, square_marks, strip);
+    }
+    all
+}
+
+// How many clear squares differ from what is shown.
+pub fn count_changed(
+    order: usize,
+    squares: usize,
+    codes: &[u8],
+    strip_marks: &[u8],
+    square_marks: &[u8],
+    frame: &[u8],
+) -> usize
+    requires sized { ⌜ Sized squares (now codes) (now «strip_marks») (now «square_marks») ⌝ }
+    requires whole { ⌜ length (now frame) ≡ length (now codes) ⌝ }
+    ensures { λ r. ⌜ r ≡ changed-squares squares (length (now («strip_marks» .entry))) (reading order (shown-by (now (codes .entry)) (now («strip_marks» .entry)) (now («square_marks» .entry)))) (now (frame .entry)) ⌝ }
+{
+    let mut all = 0;
+    for strip in 0..strip_marks.len() {
+        all += changed_in(
+            order,
+            squares,
+            codes,
+            strip_marks,
+            square_marks,
+            frame,
+            strip,
+        );
     }
     all
 }
