@@ -1,3 +1,4 @@
 pub mod Shown
 pub mod Places
 pub mod Inside
+pub mod Writing

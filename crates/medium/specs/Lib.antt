@@ -1,4 +1,5 @@
 pub mod Limits
 pub mod Meaning
+pub mod Places
 pub mod Within
 pub mod Write

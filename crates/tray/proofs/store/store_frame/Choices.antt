@@ -1,0 +1,5 @@
+use Rattle.tray.specs.Stored.{Filled}
+use Rattle.tray.proofs.store.store_frame.Given as given
+
+abbrev pub Inv-loop-s : given.InvT-loop-s
+Inv-loop-s l = Filled (l .counts .strips) (l .counts .squares) (l .frame) (l .s) (l .codes) (l .entry .bytes) (l .bytes)
