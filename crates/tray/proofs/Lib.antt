@@ -1,2 +1,3 @@
 pub mod Shows
 pub mod Strips
+pub mod Made

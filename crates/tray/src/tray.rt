@@ -14,11 +14,12 @@ use medium::Look;
 use medium::Medium;
 use refusal::Refusal;
 
-/// A tray over the caller's memory.
+/// A tray over the caller's memory. Its fields may be given directly, as `Tray::over` does: a caller that writes the value out
+/// itself knows all of its memory again when the tray is gone.
 #[derive(Drop)]
 pub struct Tray<'a> {
-    bytes: &'a mut [u8],
-    counts: Counts,
+    pub bytes: &'a mut [u8],
+    pub counts: Counts,
 }
 
 impl<'a> Tray<'a> {
