@@ -7,10 +7,11 @@ use native.Mathlib.Omega.{arith}
 use lib.ListN.{length, getD, set, length-set}
 use lib.Seq.{getD-set-same, getD-set-other}
 use borrow.Author.Count.{below-more}
+use Rattle.medium.specs.Memory.{Beside}
 use Rattle.medium.specs.Places.{stripAt}
 use Rattle.medium.proofs.Places.{row-le, strip-after, strip-before}
 use Rattle.tray.specs.Layout.{width}
-use Rattle.tray.specs.Stored.{Strip, Beside, Filled}
+use Rattle.tray.specs.Stored.{Strip, Filled}
 
 pub two-other : (b : List ℕ) (p q v w i : ℕ) → i ≢ p → i ≢ q → getD (set (set b p v) q w) i 0 ≡ getD b i 0
 two-other b p q v w i hp hq = getD-set-other (set b p v) q i w 0 hq ∙ getD-set-other b p i v 0 hp

@@ -7,11 +7,12 @@ ghost use lib.ListN.{length, getD};
 ghost use Rattle.std.specs.Results.{Cases};
 ghost use Rattle.medium.specs.declared.medium.Look.the-variants.{Gone};
 ghost use Rattle.medium.specs.Meaning.{lookOn, lookOf, openOf};
+ghost use Rattle.medium.specs.Memory.{Room, Beside};
 ghost use Rattle.medium.specs.Places.{sizeOf};
 ghost use Rattle.medium.specs.Within.{bounded};
 ghost use Rattle.medium.specs.Write.{Writes};
 ghost use Rattle.tray.specs.Layout.{width as widthOf, squareOf, trayShows};
-ghost use Rattle.tray.specs.Stored.{Room, Strip, Beside, Stored};
+ghost use Rattle.tray.specs.Stored.{Strip, Stored};
 use medium::Counts;
 use medium::Look;
 use refusal::Refusal;
@@ -60,7 +61,7 @@ fn store_strip(bytes: &mut [u8], at: usize, m: usize, codes: &[u8], from: usize)
 
 // Writes the codes of a frame. Asks for a frame that there is, in a memory of the right length, and for all its codes.
 pub fn store_frame(bytes: &mut [u8], counts: Counts, frame: usize, codes: &[u8])
-    requires { ⌜ Room counts frame (now codes) (now bytes) ⌝ }
+    requires { ⌜ Room counts (widthOf (counts .squares)) frame (now codes) (now bytes) ⌝ }
     ensures frame { λ _. ⌜ Stored (counts .strips) (counts .squares) frame (now (codes .entry)) (now (bytes .entry)) (now (bytes .exit)) ⌝ }
 {
     let m = counts.squares();
