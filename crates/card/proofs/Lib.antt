@@ -1,3 +1,4 @@
 pub mod Letters
+pub mod Lines
 pub mod Shows
 pub mod Tested
