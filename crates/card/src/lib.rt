@@ -9,3 +9,4 @@ pub use alphabet::alphabet_stands;
 pub use alphabet::character_of;
 pub use alphabet::value_of;
 pub use card::Card;
+pub use card::CardMedium;

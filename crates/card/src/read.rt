@@ -104,6 +104,14 @@ pub fn look_at(
     Ok(look_in(bytes, at, counts.squares(), square))
 }
 
+// Whether a frame is there to be written on: its memory a card's, and all its characters spaces. Asks for a frame that there is.
+pub fn is_blank(bytes: &[u8], counts: Counts, frame: usize) -> bool
+    requires { ⌜ frame < counts .frames ⌝ }
+    ensures value { λ r. ⌜ r ≡ cond (eqb (length (now (bytes .entry))) (sizeOf (counts .frames) (counts .strips) (widthOf (counts .squares)))) (frameBlank (counts .strips) (counts .squares) (now (bytes .entry)) frame) false ⌝ }
+{
+    suits(bytes, counts) && frame_blank(bytes, counts, frame)
+}
+
 // Whether a frame of a card over these bytes is open.
 pub fn open_at(bytes: &[u8], counts: Counts, frame: usize) -> Result<bool, Refusal>
     ensures value { λ r. ⌜ r ≡ openOf (cardShows counts (now (bytes .entry))) frame ⌝ }
@@ -111,5 +119,5 @@ pub fn open_at(bytes: &[u8], counts: Counts, frame: usize) -> Result<bool, Refus
     if frame >= counts.frames() {
         return Err(Refusal::NoSuchPlace);
     }
-    Ok(suits(bytes, counts) && frame_blank(bytes, counts, frame))
+    Ok(is_blank(bytes, counts, frame))
 }

@@ -10,7 +10,7 @@ ghost use Rattle.medium.specs.Write.{Writes};
 ghost use Rattle.card.specs.Layout.{width as widthOf, cardShows};
 ghost use Rattle.card.specs.Stored.{Line, Stored};
 use crate::alphabet::letter_of;
-use crate::read::open_at;
+use crate::read::is_blank;
 use crate::read::width;
 use medium::Counts;
 use refusal::Refusal;
@@ -49,4 +49,30 @@ fn store_frame(bytes: &mut [u8], counts: Counts, frame: usize, codes: &[u8])
         let at = counts.strip_at(frame, s, width(counts));
         store_strip(bytes, at, m, codes, s * m);
     }
+}
+
+// Writes the codes of a frame of a card over these bytes.
+pub fn write_at(
+    bytes: &mut [u8],
+    counts: Counts,
+    frame: usize,
+    codes: &[u8],
+) -> Result<(), Refusal>
+    ensures frame { λ r. ⌜ Writes (cardShows counts (now (bytes .entry))) frame (now (codes .entry)) r (cardShows counts (now (bytes .exit))) ⌝ }
+    ensures left { λ r. ⌜ Cases r (λ _. Stored (counts .strips) (counts .squares) frame (now (codes .entry)) (now (bytes .entry)) (now (bytes .exit))) (λ _. now (bytes .exit) ≡ now (bytes .entry)) ⌝ }
+{
+    if frame >= counts.frames() {
+        return Err(Refusal::NoSuchPlace);
+    }
+    if codes.len() != counts.frame_squares() {
+        return Err(Refusal::WrongLength);
+    }
+    if !all_below(codes) {
+        return Err(Refusal::BadSymbol);
+    }
+    if !is_blank(bytes, counts, frame) {
+        return Err(Refusal::Closed);
+    }
+    store_frame(bytes, counts, frame, codes);
+    Ok(())
 }
