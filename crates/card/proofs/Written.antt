@@ -1,6 +1,6 @@
 -- What a card shows after a writing: the codes in their frame, and every other frame as it was. Assumes nothing.
 use mathlib.Core.Path.{_≡_, refl, sym, ap, subst, _∙_}
-use mathlib.Core.Logic.{_⊎_, ⊎-elim, _≢_}
+use mathlib.Core.Logic.{_≢_}
 use mathlib.Core.Bool.{Bool, true, false, cond, not}
 use mathlib.Core.List.{List}
 use Prim.Native.Nat.{ℕ, _+_, _*_, _<_, _≤_}
@@ -14,7 +14,8 @@ use Rattle.medium.specs.Meaning.{doubtful, clear}
 use Rattle.medium.specs.Places.{sizeOf, stripAt}
 use Rattle.medium.specs.Within.{bounded}
 use Rattle.medium.specs.Write.{Written}
-use Rattle.medium.proofs.Places.{some-each, row-le, strip-after, strip-before, frames-apart}
+use Rattle.medium.proofs.Places.{some-each, row-le}
+use Rattle.medium.proofs.Filling.{beside-apart}
 use Rattle.medium.proofs.Inside.{within-written}
 use Rattle.card.specs.Alphabet.{valueOf, letter, isLetter}
 use Rattle.card.specs.Every.{every}
@@ -35,8 +36,7 @@ card-written c xs ys codes f there long many below put =
     let fit : eqb (length ys) (sizeOf fs n w) ≡ true = eq-eqb (length ys) (sizeOf fs n w) (long' ∙ long) in
     let code : ℕ → ℕ → ℕ = λ s k. getD codes (s * m + k) 0 in
     let small : (s k : ℕ) → s < n → k < m → code s k < 37 = λ s k hs hk. (let r = row-le s n m hs in below (s * m + k) (omega arith)) in
-    let outside : (g p : ℕ) → g ≢ f → g * n * w ≤ p → p < (g * n + n) * w → getD ys p 0 ≡ getD xs p 0 = λ g p ne lo hi. ⊎-elim (λ h. put .beside .below p (omega arith)) (λ h. put .beside .above p (omega arith)) (frames-apart fs n w f g ne) in
-    let same : (g s k : ℕ) → g ≢ f → s < n → k < m → getD ys (charAt n m g s k) 0 ≡ getD xs (charAt n m g s k) 0 = λ g s k ne hs hk. (let lo = strip-after fs n w g s in let hi = strip-before fs n w g s hs in outside g (charAt n m g s k) ne (omega arith) (omega arith)) in
+    let same : (g s k : ℕ) → g ≢ f → s < n → k < m → getD ys (charAt n m g s k) 0 ≡ getD xs (charAt n m g s k) 0 = λ g s k ne hs hk. beside-apart n w f xs ys (put .beside) g s (charAt n m g s k) ne hs (omega arith) (omega arith) in
     within-written fs n m 37 (cardReads fs n m xs) (cardReads fs n m ys) f codes there
     (λ s hs. ap (λ b. cond b (stripGone ys (stripAt n w f s) m) true) fit ∙ every-fails m 0 (λ k. not (isLetter (getD ys (stripAt n w f s + k) 0))) (omega arith) (ap (λ x. not (isLetter x)) (put .strips s hs .shown 0 (omega arith)) ∙ ap not (letter-is (code s 0) (small s 0 hs (omega arith)))))
     (λ s k hs hk. ap (λ x. bounded 37 (squareOf (valueOf x))) (put .strips s hs .shown k hk) ∙ ap (λ o. bounded 37 (squareOf o)) (letter-value (code s k) (small s k hs hk)) ∙ ap (λ b. cond b (clear (code s k)) doubtful) (lt-ltb (code s k) 37 (small s k hs hk)))

@@ -5,9 +5,10 @@
 ghost use mathlib.Core.Path.{_≡_};
 ghost use Prim.Native.Nat.{ℕ, _<_};
 ghost use lib.ListN.{length, getD};
+ghost use Rattle.medium.specs.Memory.{Tests};
 ghost use Rattle.medium.specs.Places.{sizeOf};
 ghost use Rattle.card.specs.Layout.{width as widthOf, cardShows};
-ghost use Rattle.card.specs.Make.{Tests, Laid, All-open, freshByte};
+ghost use Rattle.card.specs.Make.{Laid, All-open, freshByte};
 use crate::card::Card;
 use crate::read::width;
 use medium::Counts;
@@ -41,13 +42,20 @@ impl<'a> Card<'a> {
         squares: usize,
         long: usize,
     ) -> Result<Counts, Refusal>
-        ensures counts { λ r. ⌜ Tests frames strips squares long r ⌝ }
+        ensures counts { λ r. ⌜ Tests frames strips squares (widthOf squares) long r ⌝ }
     {
         let counts = Counts::new(frames, strips, squares)?;
         if long != counts.size(width(counts)) {
             return Err(Refusal::Unsuited);
         }
         Ok(counts)
+    }
+
+    /// How many bytes a card takes.
+    pub fn size(counts: Counts) -> usize
+        ensures value { λ r. ⌜ r ≡ sizeOf (counts .frames) (counts .strips) (widthOf (counts .squares)) ⌝ }
+    {
+        counts.size(width(counts))
     }
 
     /// A card over a memory as it stands.

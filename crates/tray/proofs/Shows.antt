@@ -19,7 +19,8 @@ use Rattle.medium.specs.Meaning.{Meaning, Square, doubtful, clear, lookOn, look
 use Rattle.medium.specs.Places.{sizeOf, stripAt}
 use Rattle.medium.specs.Within.{Reading, bounded, within}
 use Rattle.medium.specs.Write.{Written}
-use Rattle.medium.proofs.Places.{row-le, strip-after, strip-before, frames-apart}
+use Rattle.medium.proofs.Places.{row-le}
+use Rattle.medium.proofs.Filling.{beside-apart}
 use Rattle.medium.proofs.Inside.{within-limits, within-written, look-answers, open-there, Same-frame}
 use Rattle.tray.specs.Layout.{width, codeAt, doubtAt, squareOf, trayReads, trayShows}
 use Rattle.tray.specs.Stored.{Stored}
@@ -53,12 +54,12 @@ tray-written c xs ys codes f there long many below put =
     let w = width m in
     let long' = put .beside .long in
     let fit : eqb (length ys) (sizeOf fs n w) ≡ true = eq-eqb (length ys) (sizeOf fs n w) (long' ∙ long) in
-    let outside : (g p : ℕ) → g ≢ f → g * n * w ≤ p → p < (g * n + n) * w → getD ys p 0 ≡ getD xs p 0 = λ g p ne lo hi. ⊎-elim (λ h. put .beside .below p (omega arith)) (λ h. put .beside .above p (omega arith)) (frames-apart fs n w f g ne) in
+    let same = beside-apart n w f xs ys (put .beside) in
     within-written fs n m 256 (trayReads fs n m xs) (trayReads fs n m ys) f codes there
     (λ s hs. ap (λ b. cond b (not (eqb (getD ys (stripAt n w f s) 0) 0)) true) fit ∙ ap (λ x. not (eqb x 0)) (put .strips s hs .present))
     (λ s k hs hk. let st = put .strips s hs in let r = row-le s n m hs in let code = getD codes (s * m + k) 0 in (λ i. bounded 256 (squareOf (st .shown k hk i) (st .sure k hk i))) ∙ ap (λ b. cond b (clear code) doubtful) (lt-ltb code 256 (below (s * m + k) (omega arith))))
     (λ g ne hg. record {
       unlocked = ap (λ l. eqb l (sizeOf fs n w)) long';
-      gone = λ s hs. let lo = strip-after fs n w g s in let hi = strip-before fs n w g s hs in λ i. cond (eqb (long' i) (sizeOf fs n w)) (not (eqb (outside g (stripAt n w g s) ne (omega arith) (omega arith) i) 0)) true;
-      square = λ s k hs hk. let lo = strip-after fs n w g s in let hi = strip-before fs n w g s hs in λ i. squareOf (outside g (codeAt n m g s k) ne (omega arith) (omega arith) i) (outside g (doubtAt n m g s k) ne (omega arith) (omega arith) i);
+      gone = λ s hs. λ i. cond (eqb (long' i) (sizeOf fs n w)) (not (eqb (same g s (stripAt n w g s) ne hs (omega arith) (omega arith) i) 0)) true;
+      square = λ s k hs hk. λ i. squareOf (same g s (codeAt n m g s k) ne hs (omega arith) (omega arith) i) (same g s (doubtAt n m g s k) ne hs (omega arith) (omega arith) i);
     })

@@ -1,6 +1,4 @@
 -- How a tray is made, and how it wears.
---   Passes      what the test asks: counts within the limits, and a memory of the tray's length
---   Tests       what the test answers: the counts if they pass, else 2
 --   Laid        a meaning is what the layout says of the bytes, byte by byte
 --   freshByte   the byte of a fresh tray at place i: 1 at a status, 0 elsewhere
 --   Fresh       every frame is open, and every strip gone
@@ -13,26 +11,17 @@ use mathlib.Core.Logic.{_⊎_}
 use mathlib.Core.Bool.{true, false, cond, not}
 use mathlib.Core.List.{List, [], _∷_}
 use Prim.Native.Nat.{ℕ, _+_, _*_, _%_, _<_, _≤_}
-use lib.ListN.{length, getD}
+use lib.ListN.{getD}
 use lib.Dec.{eqb}
-use Rattle.std.specs.Results.{Cases}
 use Rattle.std.specs.declared.result.Result.{Result}
 use Rattle.std.specs.declared.result.Result.the-variants.{Ok}
 use Rattle.refusal.specs.declared.Refusal.{Refusal}
-use Rattle.refusal.specs.declared.Refusal.the-variants.{Unsuited, NoSuchPlace}
+use Rattle.refusal.specs.declared.Refusal.the-variants.{NoSuchPlace}
 use Rattle.refusal.specs.Outcome.{Outcome}
 use Rattle.medium.specs.declared.counts.Counts.{Counts}
-use Rattle.medium.specs.Limits.{Suited}
 use Rattle.medium.specs.Meaning.{Meaning}
-use Rattle.medium.specs.Places.{sizeOf, stripAt}
+use Rattle.medium.specs.Places.{stripAt}
 use Rattle.tray.specs.Layout.{width, codeAt, doubtAt, squareOf}
-
-abbrev pub Passes : ℕ → ℕ → ℕ → ℕ → Type 0
-Passes fs n m long = Suited fs n m × (long ≡ sizeOf fs n (width m))
-
-abbrev pub Tests : ℕ → ℕ → ℕ → ℕ → Result Counts Refusal → Type 0
-Tests fs n m long r =
-    Cases r (λ c. (c .frames ≡ fs) × (c .strips ≡ n) × (c .squares ≡ m) × (long ≡ sizeOf fs n (width m))) (λ e. (e ≡ Unsuited) × (Passes fs n m long → ⊥))
 
 pub record Laid (c : Counts) (xs : List ℕ) (w : Meaning) : Type 0 where
   pub frames : w .frames ≡ c .frames

@@ -7,9 +7,10 @@
 ghost use mathlib.Core.Path.{_≡_};
 ghost use Prim.Native.Nat.{ℕ, _<_};
 ghost use lib.ListN.{length, getD};
+ghost use Rattle.medium.specs.Memory.{Tests};
 ghost use Rattle.medium.specs.Places.{sizeOf};
 ghost use Rattle.tray.specs.Layout.{width as widthOf, trayShows};
-ghost use Rattle.tray.specs.Make.{Tests, Laid, Fresh, freshByte};
+ghost use Rattle.tray.specs.Make.{Laid, Fresh, freshByte};
 use crate::store::width;
 use crate::tray::Tray;
 use medium::Counts;
@@ -39,13 +40,20 @@ impl<'a> Tray<'a> {
         squares: usize,
         long: usize,
     ) -> Result<Counts, Refusal>
-        ensures counts { λ r. ⌜ Tests frames strips squares long r ⌝ }
+        ensures counts { λ r. ⌜ Tests frames strips squares (widthOf squares) long r ⌝ }
     {
         let counts = Counts::new(frames, strips, squares)?;
         if long != counts.size(width(counts)) {
             return Err(Refusal::Unsuited);
         }
         Ok(counts)
+    }
+
+    /// How many bytes a tray takes.
+    pub fn size(counts: Counts) -> usize
+        ensures value { λ r. ⌜ r ≡ sizeOf (counts .frames) (counts .strips) (widthOf (counts .squares)) ⌝ }
+    {
+        counts.size(width(counts))
     }
 
     /// A tray over a memory as it stands.

@@ -4,12 +4,14 @@ use native.Mathlib.Omega.{arith}
 use lib.ListN.{length}
 use Rattle.medium.specs.Places.{sizeOf, stripAt}
 use Rattle.medium.proofs.Places.{row-le}
-use Rattle.card.specs.Stored.{Filled}
-use Rattle.card.proofs.Lines.{filled-none, filled-more}
+use Rattle.medium.proofs.Filling.{filled-none}
+use Rattle.card.specs.Layout.{width}
+use Rattle.card.specs.Stored.{lineOf}
+use Rattle.card.proofs.Lines.{lines-more}
 use Rattle.card.proofs.store.store_frame.Needs as need
 
 pub loop-s-holds : need.loop-s-holds
-loop-s-holds c = filled-none (c .args .counts .strips) (c .args .counts .squares) (c .args .frame) (c .args .codes .now) (c .args .bytes .now)
+loop-s-holds c = filled-none (c .args .counts .strips) (width (c .args .counts .squares)) (c .args .frame) (lineOf (c .args .counts .strips) (c .args .counts .squares) (c .args .frame) (c .args .codes .now)) (c .args .bytes .now)
 
 pub store-strip-requires : need.store-strip-requires
 store-strip-requires c κs =
@@ -23,7 +25,7 @@ pub loop-s-again : need.loop-s-again
 loop-s-again c =
     let t = c .args .counts in
     let s = c .loop-s .s in
-    filled-more (t .strips) (t .squares) (c .args .frame) s (c .args .codes .now) (c .args .bytes .now) (c .loop-s .bytes) (c .store-strip .last .bytes) (c .strip-at-at .result) (c .squares-m .result)
+    lines-more (t .strips) (t .squares) (c .args .frame) s (c .args .codes .now) (c .args .bytes .now) (c .loop-s .bytes) (c .store-strip .last .bytes) (c .strip-at-at .result) (c .squares-m .result)
     (c .strip-at-at .ensures .value ∙ ap (λ w. stripAt (t .strips) w (c .args .frame) s) (c .width .ensures .value))
     (c .squares-m .ensures .value) (omega arith) (c .loop-s .inv) (c .store-strip .ensures .frame) (c .store-strip .ensures .same)
 
