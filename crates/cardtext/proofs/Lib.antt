@@ -1,0 +1,5 @@
+pub mod Digits
+pub mod Encoding
+pub mod Keeping
+pub mod Sizes
+pub mod Strips
