@@ -1,0 +1,59 @@
+-- The line that a command prints, and the line of an error in the script itself.
+--   figure      a space, and a number in decimal
+--   hexDigit    a hexadecimal digit, in upper case
+--   hex         a symbol in two hexadecimal digits
+--   named       the letter of a command, and its frame numbers
+--   answered    the number of an answer, 0 if the command was accepted; for a record that was read also the counts and the symbols
+--   line        the line of a command and its answer
+--   errorLine   the line of an error in the script
+--   symbols     how many symbols an answer gives
+-- Assumes nothing.
+use mathlib.Core.Bool.{cond}
+use mathlib.Core.List.{List, [], _∷_, _++_}
+use Prim.Native.Nat.{ℕ, _+_, _/_, _%_}
+use lib.Dec.{ltb}
+use lib.ListN.{length}
+use denote.Ref.{now}
+use Rattle.std.specs.Written.{decimal}
+use Rattle.std.specs.shelf.Lists.{joined}
+use Rattle.refusal.specs.declared.Refusal.{Refusal}
+use Rattle.refusal.specs.Numbers.{numberOf}
+use Rattle.script.specs.declared.grammar.Command.{Command}
+use Rattle.script.specs.declared.grammar.Command.the-variants.{Store, Read, Mend, Copy, Write, Doubt, Gone}
+use Rattle.lines.specs.declared.Answer.{Answer}
+use Rattle.lines.specs.declared.Answer.the-variants.{Done, Refused, Reading}
+
+abbrev pub figure : ℕ → List ℕ
+figure n = 32 ∷ decimal n
+
+abbrev pub hexDigit : ℕ → ℕ
+hexDigit d = cond (ltb d 10) (48 + d) (55 + d)
+
+abbrev pub hex : ℕ → List ℕ
+hex symbol = hexDigit (symbol / 16) ∷ hexDigit (symbol % 16) ∷ []
+
+abbrev pub named : Command → List ℕ
+named (Store frame symbols) = 83 ∷ figure frame
+named (Read frame) = 82 ∷ figure frame
+named (Mend frame) = 77 ∷ figure frame
+named (Copy source target) = 67 ∷ (figure source ++ figure target)
+named (Write frame strip square code) = 87 ∷ figure frame
+named (Doubt frame strip square) = 68 ∷ figure frame
+named (Gone frame strip) = 71 ∷ figure frame
+
+abbrev pub answered : Answer → List ℕ
+answered Done = figure 0
+answered (Refused cause) = figure (numberOf cause)
+answered (Reading gone doubtful changed symbols) =
+    figure 0 ++ (figure gone ++ (figure doubtful ++ (figure changed ++ (32 ∷ joined hex (now symbols)))))
+
+abbrev pub line : Command → Answer → List ℕ
+line command answer = named command ++ (answered answer ++ (10 ∷ []))
+
+abbrev pub errorLine : Refusal → List ℕ
+errorLine cause = 33 ∷ (figure (numberOf cause) ++ (10 ∷ []))
+
+abbrev pub symbols : Answer → ℕ
+symbols Done = 0
+symbols (Refused cause) = 0
+symbols (Reading gone doubtful changed read) = length (now read)
