@@ -6,7 +6,8 @@ use native.Mathlib.Nat.{add-zero}
 use native.Mathlib.Omega.{arith}
 use lib.ListN.{length, set, take, drop, length-append, length-set}
 use Rattle.std.proofs.shelf.Lists.{append-assoc, take-more-set, drop-set-lt, take-append-drop}
-use Rattle.lines.specs.Texts.{overlay, Puts}
+use Rattle.std.specs.declared.result.Result.the-variants.{Ok}
+use Rattle.lines.specs.Texts.{overlay, Prints, Puts}
 
 overlay-append : (at : ℕ) (t u xs : List ℕ) → overlay at (t ++ u) xs ≡ overlay (at + length t) u (overlay at t xs)
 overlay-append at [] u xs = rw add-zero
@@ -49,3 +50,9 @@ puts-front t a b r h p =
     let room : 0 + length t ≤ length a = omega arith in
     let e : 0 + length t ≡ length t = omega arith in
     p .laid ∙ overlay-is 0 t a room ∙ ap (λ n. t ++ drop n a) e
+
+pub printed : (t a b : List ℕ) (r : ℕ) → r ≤ length a → Puts t 0 a b r → Prints t a b (Ok r)
+printed t a b r h p = record {
+    size = ap (λ n. Ok n) (let e : r ≡ length t = omega (arith, p .end) in e);
+    front = puts-front t a b r (omega (arith, p .end)) p
+}

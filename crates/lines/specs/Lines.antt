@@ -6,22 +6,27 @@
 --   answered    the number of an answer, 0 if the command was accepted; for a record that was read also the counts and the symbols
 --   line        the line of a command and its answer
 --   errorLine   the line of an error in the script
---   symbols     how many symbols an answer gives
+--   given       how many symbols an answer gives
+--   no-line     why there is no line: the buffer has not 600 bytes, or the answer gives more symbols than any record has
+--   no-error-line   why there is no line for an error: the buffer has not 600 bytes
 -- Assumes nothing.
 use mathlib.Core.Bool.{cond}
+use mathlib.Core.Logic.{_≢_, _⊎_}
 use mathlib.Core.List.{List, [], _∷_, _++_}
-use Prim.Native.Nat.{ℕ, _+_, _/_, _%_}
+use Prim.Native.Nat.{ℕ, _+_, _/_, _%_, _<_}
 use lib.Dec.{ltb}
 use lib.ListN.{length}
 use denote.Ref.{now}
 use Rattle.std.specs.Written.{decimal}
 use Rattle.std.specs.shelf.Lists.{joined}
 use Rattle.refusal.specs.declared.Refusal.{Refusal}
+use Rattle.refusal.specs.declared.Refusal.the-variants.{WrongLength}
 use Rattle.refusal.specs.Numbers.{numberOf}
+use Rattle.refusal.specs.Outcome.{Cause}
 use Rattle.script.specs.declared.grammar.Command.{Command}
 use Rattle.script.specs.declared.grammar.Command.the-variants.{Store, Read, Mend, Copy, Write, Doubt, Gone}
-use Rattle.lines.specs.declared.Answer.{Answer}
-use Rattle.lines.specs.declared.Answer.the-variants.{Done, Refused, Reading}
+use Rattle.lines.specs.declared.line.Answer.{Answer}
+use Rattle.lines.specs.declared.line.Answer.the-variants.{Done, Refused, Reading}
 
 abbrev pub figure : ℕ → List ℕ
 figure n = 32 ∷ decimal n
@@ -53,7 +58,13 @@ line command answer = named command ++ (answered answer ++ (10 ∷ []))
 abbrev pub errorLine : Refusal → List ℕ
 errorLine cause = 33 ∷ (figure (numberOf cause) ++ (10 ∷ []))
 
-abbrev pub symbols : Answer → ℕ
-symbols Done = 0
-symbols (Refused cause) = 0
-symbols (Reading gone doubtful changed read) = length (now read)
+abbrev pub given : Answer → ℕ
+given Done = 0
+given (Refused cause) = 0
+given (Reading gone doubtful changed symbols) = length (now symbols)
+
+abbrev pub no-line : Answer → List ℕ → List Cause
+no-line answer buffer = (WrongLength, (length buffer ≢ 600) ⊎ (255 < given answer)) ∷ []
+
+abbrev pub no-error-line : List ℕ → List Cause
+no-error-line buffer = (WrongLength, length buffer ≢ 600) ∷ []

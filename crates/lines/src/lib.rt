@@ -1,20 +1,7 @@
-// The lines that a script prints.
+// The lines that a script prints: one for each command, and one for an error in the script itself.
+mod line;
 mod text;
 
-use refusal::Refusal;
-
-/// What a command answers.
-#[derive(Clone, Copy)]
-pub enum Answer<'a> {
-    /// The command was done.
-    Done,
-    /// The command was refused.
-    Refused(Refusal),
-    /// A record was read: what the frame had shown, and the record's symbols.
-    Reading {
-        gone: usize,
-        doubtful: usize,
-        changed: usize,
-        symbols: &'a [u8],
-    },
-}
+pub use line::Answer;
+pub use line::answer_line;
+pub use line::error_line;
