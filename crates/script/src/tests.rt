@@ -3,6 +3,7 @@ use crate::Command;
 use crate::parse_command;
 use crate::parse_header;
 use refusal::Refusal;
+use refusal::RefusalDebug;
 use std::test::*;
 
 /// A record of the tests has two symbols.
