@@ -17,13 +17,13 @@ overlay-append at (b ∷ t) u xs =
 
 pub puts-more : (t u : List ℕ) (at m r : ℕ) (a b c : List ℕ) → Puts t at a b m → Puts u m b c r → Puts (t ++ u) at a c r
 puts-more t u at m r a b c p q = record {
-    end = simp length-append (omega (arith, p .end, q .end));
-    laid =
-        let joined = overlay-append at t u a in
-        let p-end = p .end in
-        let p-laid = p .laid in
-        let q-laid = q .laid in
-        cc
+  end = simp length-append (omega (arith, p .end, q .end));
+  laid =
+      let joined = overlay-append at t u a in
+      let p-end = p .end in
+      let p-laid = p .laid in
+      let q-laid = q .laid in
+      cc;
 }
 
 pub puts-as : (t u : List ℕ) (at r : ℕ) (a b : List ℕ) → t ≡ u → Puts t at a b r → Puts u at a b r
@@ -53,6 +53,6 @@ puts-front t a b r h p =
 
 pub printed : (t a b : List ℕ) (r : ℕ) → r ≤ length a → Puts t 0 a b r → Prints t a b (Ok r)
 printed t a b r h p = record {
-    size = ap (λ n. Ok n) (let e : r ≡ length t = omega (arith, p .end) in e);
-    front = puts-front t a b r (omega (arith, p .end)) p
+  size = ap (λ n. Ok n) (let e : r ≡ length t = omega (arith, p .end) in e);
+  front = puts-front t a b r (omega (arith, p .end)) p;
 }

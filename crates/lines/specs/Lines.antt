@@ -2,6 +2,7 @@
 --   figure      a space, and a number in decimal
 --   hexDigit    a hexadecimal digit, in upper case
 --   hex         a symbol in two hexadecimal digits
+--   frames      the frame number of a command, or two for a copy
 --   named       the letter of a command, and its frame numbers
 --   answered    the number of an answer, 0 if the command was accepted; for a record that was read also the counts and the symbols
 --   line        the line of a command and its answer
@@ -23,6 +24,7 @@ use Rattle.refusal.specs.declared.Refusal.{Refusal}
 use Rattle.refusal.specs.declared.Refusal.the-variants.{WrongLength}
 use Rattle.refusal.specs.Numbers.{numberOf}
 use Rattle.refusal.specs.Outcome.{Cause}
+use Rattle.script.specs.Grammar.{letter}
 use Rattle.script.specs.declared.grammar.Command.{Command}
 use Rattle.script.specs.declared.grammar.Command.the-variants.{Store, Read, Mend, Copy, Write, Doubt, Gone}
 use Rattle.lines.specs.declared.line.Answer.{Answer}
@@ -37,14 +39,17 @@ hexDigit d = cond (ltb d 10) (48 + d) (55 + d)
 abbrev pub hex : ℕ → List ℕ
 hex symbol = hexDigit (symbol / 16) ∷ hexDigit (symbol % 16) ∷ []
 
+abbrev pub frames : Command → List ℕ
+frames (Store frame symbols) = figure frame
+frames (Read frame) = figure frame
+frames (Mend frame) = figure frame
+frames (Copy source target) = figure source ++ figure target
+frames (Write frame strip square code) = figure frame
+frames (Doubt frame strip square) = figure frame
+frames (Gone frame strip) = figure frame
+
 abbrev pub named : Command → List ℕ
-named (Store frame symbols) = 83 ∷ figure frame
-named (Read frame) = 82 ∷ figure frame
-named (Mend frame) = 77 ∷ figure frame
-named (Copy source target) = 67 ∷ (figure source ++ figure target)
-named (Write frame strip square code) = 87 ∷ figure frame
-named (Doubt frame strip square) = 68 ∷ figure frame
-named (Gone frame strip) = 71 ∷ figure frame
+named command = letter command ∷ frames command
 
 abbrev pub answered : Answer → List ℕ
 answered Done = figure 0

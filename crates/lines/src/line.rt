@@ -7,11 +7,11 @@ ghost use Rattle.std.specs.shelf.Lists.{joined};
 ghost use Rattle.refusal.specs.Outcome.{Outcome};
 ghost use Rattle.lines.specs.Lines.{answered, errorLine, figure, given, hex, line, named, no-error-line, no-line};
 ghost use Rattle.lines.specs.Texts.{Prints, Puts};
-use refusal::Refusal;
-use script::Command;
 use crate::text::put;
 use crate::text::put_figure;
 use crate::text::put_hex;
+use refusal::Refusal;
+use script::Command;
 
 /// How many bytes the buffer of a line has.
 const LINE_SIZE: usize = 600;
@@ -110,16 +110,19 @@ fn put_answer(out: &mut [u8], at: usize, answer: Answer) -> usize
     match answer {
         Answer::Done => put_figure(out, at, 0),
         Answer::Refused(cause) => put_figure(out, at, cause.number() as usize),
-        Answer::Reading { gone, doubtful, changed, symbols } => {
-            put_reading(out, at, gone, doubtful, changed, symbols)
-        }
+        Answer::Reading {
+            gone,
+            doubtful,
+            changed,
+            symbols,
+        } => { put_reading(out, at, gone, doubtful, changed, symbols) }
     }
 }
 
 /// Makes the line of a command and its answer at the front of a buffer, and answers the line's length.
 /// Refused if the buffer has not 600 bytes, or the answer gives more symbols than a record has.
 pub fn answer_line(command: Command, answer: Answer, out: &mut [u8]) -> Result<usize, Refusal>
-    ensures value { λ r. ⌜ Outcome (no-line (answer .entry) (now (out .entry))) (now (out .exit) ≡ now (out .entry)) (Prints (line (command .entry) (answer .entry)) (now (out .entry)) (now (out .exit)) r) r ⌝ }
+    ensures value { λ r. let before = now (out .entry) in let after = now (out .exit) in ⌜ Outcome (no-line (answer .entry) before) (after ≡ before) (Prints (line (command .entry) (answer .entry)) before after r) r ⌝ }
 {
     if out.len() != LINE_SIZE || symbols_given(answer) > RECORD_MOST {
         return Err(Refusal::WrongLength);
@@ -132,7 +135,7 @@ pub fn answer_line(command: Command, answer: Answer, out: &mut [u8]) -> Result<u
 /// Makes the line of an error in the script at the front of a buffer, and answers the line's length.
 /// Refused if the buffer has not 600 bytes.
 pub fn error_line(cause: Refusal, out: &mut [u8]) -> Result<usize, Refusal>
-    ensures value { λ r. ⌜ Outcome (no-error-line (now (out .entry))) (now (out .exit) ≡ now (out .entry)) (Prints (errorLine cause) (now (out .entry)) (now (out .exit)) r) r ⌝ }
+    ensures value { λ r. let before = now (out .entry) in let after = now (out .exit) in ⌜ Outcome (no-error-line before) (after ≡ before) (Prints (errorLine cause) before after r) r ⌝ }
 {
     if out.len() != LINE_SIZE {
         return Err(Refusal::WrongLength);

@@ -29,12 +29,39 @@ fn prints(command: Command, answer: Answer, line: &[u8]) -> Result<(), Fail> {
 fn example_lines() -> Result<(), Fail> {
     let symbols: &[u8] = &[1, 0];
     let read = Command::Read { frame: 0 };
-    let worn = Answer::Reading { gone: 1, doubtful: 0, changed: 1, symbols };
-    let mended = Answer::Reading { gone: 0, doubtful: 0, changed: 0, symbols };
+    let worn = Answer::Reading {
+        gone: 1,
+        doubtful: 0,
+        changed: 1,
+        symbols,
+    };
+    let mended = Answer::Reading {
+        gone: 0,
+        doubtful: 0,
+        changed: 0,
+        symbols,
+    };
     let outside = Command::Read { frame: 9 };
-    prints(Command::Store { frame: 0, symbols }, Answer::Done, b"S 0 0\n")?;
-    prints(Command::Gone { frame: 0, strip: 0 }, Answer::Done, b"G 0 0\n")?;
-    prints(Command::Write { frame: 0, strip: 2, square: 1, code: 4 }, Answer::Done, b"W 0 0\n")?;
+    prints(
+        Command::Store { frame: 0, symbols },
+        Answer::Done,
+        b"S 0 0\n",
+    )?;
+    prints(
+        Command::Gone { frame: 0, strip: 0 },
+        Answer::Done,
+        b"G 0 0\n",
+    )?;
+    prints(
+        Command::Write {
+            frame: 0,
+            strip: 2,
+            square: 1,
+            code: 4,
+        },
+        Answer::Done,
+        b"W 0 0\n",
+    )?;
     prints(read, worn, b"R 0 0 1 0 1 0100\n")?;
     prints(Command::Mend { frame: 0 }, Answer::Done, b"M 0 0\n")?;
     prints(read, mended, b"R 0 0 0 0 0 0100\n")?;
@@ -43,13 +70,29 @@ fn example_lines() -> Result<(), Fail> {
 
 #[test]
 fn other_lines() -> Result<(), Fail> {
-    let copy = Command::Copy { source: 10, target: 65535 };
-    let doubt = Command::Doubt { frame: 4095, strip: 1, square: 2 };
+    let copy = Command::Copy {
+        source: 10,
+        target: 65535,
+    };
+    let doubt = Command::Doubt {
+        frame: 4095,
+        strip: 1,
+        square: 2,
+    };
     let symbols: &[u8] = &[0xAF, 0x09, 0xF0];
-    let reading = Answer::Reading { gone: 254, doubtful: 10, changed: 100, symbols };
+    let reading = Answer::Reading {
+        gone: 254,
+        doubtful: 10,
+        changed: 100,
+        symbols,
+    };
     prints(copy, Answer::Refused(Refusal::NotShown), b"C 10 65535 10\n")?;
     prints(doubt, Answer::Done, b"D 4095 0\n")?;
-    prints(Command::Read { frame: 100 }, reading, b"R 100 0 254 10 100 AF09F0\n")
+    prints(
+        Command::Read { frame: 100 },
+        reading,
+        b"R 100 0 254 10 100 AF09F0\n",
+    )
 }
 
 #[test]
@@ -66,7 +109,12 @@ fn error_lines() -> Result<(), Fail> {
 fn longest_line() -> Result<(), Fail> {
     let mut out = [7; 600];
     let symbols: &[u8] = &[255; 255];
-    let answer = Answer::Reading { gone: 255, doubtful: 255, changed: 255, symbols };
+    let answer = Answer::Reading {
+        gone: 255,
+        doubtful: 255,
+        changed: 255,
+        symbols,
+    };
     let made = answer_line(Command::Read { frame: 65535 }, answer, &mut out)?;
     check(made == 533 && out[532] == b'\n' && out[533] == 7)
 }
@@ -74,7 +122,12 @@ fn longest_line() -> Result<(), Fail> {
 #[test]
 fn wrong_lengths() -> Result<(), Fail> {
     let symbols: &[u8] = &[255; 256];
-    let long = Answer::Reading { gone: 0, doubtful: 0, changed: 0, symbols };
+    let long = Answer::Reading {
+        gone: 0,
+        doubtful: 0,
+        changed: 0,
+        symbols,
+    };
     let read = Command::Read { frame: 0 };
     let Err(Refusal::WrongLength) = answer_line(read, Answer::Done, &mut [7; 599]) else {
         return Err(Fail::new("a short buffer was taken"));

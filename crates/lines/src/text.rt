@@ -8,6 +8,7 @@ ghost use Rattle.std.specs.shelf.Lists.{joined};
 ghost use Rattle.lines.specs.Lines.{figure, hex, hexDigit};
 ghost use Rattle.lines.specs.Texts.{Puts};
 
+/// One byte.
 pub fn put(out: &mut [u8], at: usize, byte: u8) -> usize
     requires room { ⌜ at < length (now out) ⌝ }
     ensures value { λ r. ⌜ Puts (byte ∷ []) at (now (out .entry)) (now (out .exit)) r ⌝ }
@@ -16,6 +17,7 @@ pub fn put(out: &mut [u8], at: usize, byte: u8) -> usize
     at + 1
 }
 
+/// A number in decimal, without leading zeros.
 fn put_decimal(out: &mut [u8], at: usize, n: usize) -> usize
     requires room { ⌜ at + length (decimal n) ≤ length (now out) ⌝ }
     ensures value { λ r. ⌜ Puts (decimal n) at (now (out .entry)) (now (out .exit)) r ⌝ }
@@ -27,7 +29,7 @@ fn put_decimal(out: &mut [u8], at: usize, n: usize) -> usize
     put(out, last, b'0' + (n % 10) as u8)
 }
 
-/// A space and a number.
+/// A space and a number. There must be room for the longest.
 pub fn put_figure(out: &mut [u8], at: usize, n: usize) -> usize
     requires room { ⌜ at + 21 ≤ length (now out) ⌝ }
     ensures value { λ r. ⌜ Puts (figure n) at (now (out .entry)) (now (out .exit)) r ⌝ }

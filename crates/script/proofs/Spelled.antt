@@ -11,7 +11,7 @@ use Rattle.refusal.specs.declared.Refusal.{Refusal}
 use Rattle.script.specs.declared.grammar.Parsed.{Parsed}
 use Rattle.script.specs.declared.grammar.Command.{Command}
 use Rattle.script.specs.declared.grammar.Command.the-variants.{Store, Read, Mend, Copy, Write, Doubt, Gone}
-use Rattle.script.specs.Grammar.{Fails, Parses, Sized, operands, spelling, width}
+use Rattle.script.specs.Grammar.{Fails, Parses, Sized, operandBytes, spelling, width}
 use Rattle.script.specs.Statements.{Read-one-way, Refused-rightly}
 
 spelled-width : (c : Command) (size : ℕ) (rest : List ℕ) → Sized size c → length (spelling c) ≡ width size (spelling c ++ rest)
@@ -23,7 +23,7 @@ spelled-width (Write f s k v) size rest h = refl
 spelled-width (Doubt f s k) size rest h = refl
 spelled-width (Gone f s) size rest h = refl
 
-spelled-known : (c : Command) (size : ℕ) (rest : List ℕ) → 0 < operands size (getD (spelling c ++ rest) 0 0)
+spelled-known : (c : Command) (size : ℕ) (rest : List ℕ) → 0 < operandBytes size (getD (spelling c ++ rest) 0 0)
 spelled-known (Store f s) size rest = omega arith
 spelled-known (Read f) size rest = omega arith
 spelled-known (Mend f) size rest = omega arith
@@ -36,9 +36,9 @@ parsed-width : (script : List ℕ) (size : ℕ) (p : Parsed) → Parses script s
 parsed-width script size p h =
     spelled-width (p .command) size (now (p .rest)) (h .1) ∙ ap (λ s. width size s) (sym (h .0))
 
-parsed-known : (script : List ℕ) (size : ℕ) (p : Parsed) → Parses script size p → 0 < operands size (getD script 0 0)
+parsed-known : (script : List ℕ) (size : ℕ) (p : Parsed) → Parses script size p → 0 < operandBytes size (getD script 0 0)
 parsed-known script size p h =
-    let Known : List ℕ → Type 0 = λ s. 0 < operands size (getD s 0 0) in
+    let Known : List ℕ → Type 0 = λ s. 0 < operandBytes size (getD s 0 0) in
     subst Known (sym (h .0)) (spelled-known (p .command) size (now (p .rest)))
 
 front-is : (script : List ℕ) (size : ℕ) (p : Parsed) → Parses script size p → take (width size script) script ≡ spelling (p .command)

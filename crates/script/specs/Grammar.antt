@@ -2,11 +2,15 @@
 --   twoBytes    a number in two bytes, high byte first
 --   heading     the bytes of a header
 --   Opens       what a header's parser answers: the header and the rest that make up the script, or that the script ends early
---   spelling    the bytes of a command: its letter, then its operands
---   operands    how many bytes follow a letter, where a record has so many symbols: 0 where no command has that letter
+--   letter      the byte that begins a command
+--   operands    the bytes that follow the letter
+--   spelling    all bytes of a command
+--   operandBytes   how many bytes follow a letter, where a record has so many symbols: 0 where no command has that letter
 --   width       how many bytes the command takes that begins a script
---   Parses      a script is this command, which stores a whole record if it stores one, and then the rest
+--   Sized       a command that stores something stores a whole record
+--   Parses      a script is this command, and then the rest
 --   Fails       why no command begins a script: its letter is unknown, or it ends early
+--   Commands    what a command's parser answers: the command and the rest, or why there is none
 -- Assumes nothing.
 use mathlib.Core.Path.{_≡_}
 use mathlib.Core.Logic.{_⊎_}
@@ -35,28 +39,39 @@ heading h = h .field ∷ h .squares ∷ h .strips ∷ h .checks ∷ twoBytes (h 
 abbrev pub Opens : List ℕ → Result Opened Refusal → Type 0
 Opens script r = Cases r (λ o. script ≡ heading (o .header) ++ now (o .rest)) (λ e. (length script < 6) × (e ≡ EndsEarly))
 
--- the letters are S, R, M, C, W, D and G
-abbrev pub spelling : Command → List ℕ
-spelling (Store frame symbols) = 83 ∷ (twoBytes frame ++ now symbols)
-spelling (Read frame) = 82 ∷ twoBytes frame
-spelling (Mend frame) = 77 ∷ twoBytes frame
-spelling (Copy source target) = 67 ∷ (twoBytes source ++ twoBytes target)
-spelling (Write frame strip square code) = 87 ∷ (twoBytes frame ++ (strip ∷ square ∷ code ∷ []))
-spelling (Doubt frame strip square) = 68 ∷ (twoBytes frame ++ (strip ∷ square ∷ []))
-spelling (Gone frame strip) = 71 ∷ (twoBytes frame ++ (strip ∷ []))
+abbrev pub letter : Command → ℕ
+letter (Store frame symbols) = 83  -- S
+letter (Read frame) = 82  -- R
+letter (Mend frame) = 77  -- M
+letter (Copy source target) = 67  -- C
+letter (Write frame strip square code) = 87  -- W
+letter (Doubt frame strip square) = 68  -- D
+letter (Gone frame strip) = 71  -- G
 
-abbrev pub operands : ℕ → ℕ → ℕ
-operands size letter =
-    cond (eqb letter 83) (2 + size)
-    (cond (eqb letter 82) 2
-    (cond (eqb letter 77) 2
-    (cond (eqb letter 67) 4
-    (cond (eqb letter 87) 5
-    (cond (eqb letter 68) 4
-    (cond (eqb letter 71) 3 0))))))
+abbrev pub operands : Command → List ℕ
+operands (Store frame symbols) = twoBytes frame ++ now symbols
+operands (Read frame) = twoBytes frame
+operands (Mend frame) = twoBytes frame
+operands (Copy source target) = twoBytes source ++ twoBytes target
+operands (Write frame strip square code) = twoBytes frame ++ (strip ∷ square ∷ code ∷ [])
+operands (Doubt frame strip square) = twoBytes frame ++ (strip ∷ square ∷ [])
+operands (Gone frame strip) = twoBytes frame ++ (strip ∷ [])
+
+abbrev pub spelling : Command → List ℕ
+spelling command = letter command ∷ operands command
+
+abbrev pub operandBytes : ℕ → ℕ → ℕ
+operandBytes size byte =
+    cond (eqb byte 83) (2 + size)
+    (cond (eqb byte 82) 2
+    (cond (eqb byte 77) 2
+    (cond (eqb byte 67) 4
+    (cond (eqb byte 87) 5
+    (cond (eqb byte 68) 4
+    (cond (eqb byte 71) 3 0))))))
 
 abbrev pub width : ℕ → List ℕ → ℕ
-width size script = 1 + operands size (getD script 0 0)
+width size script = 1 + operandBytes size (getD script 0 0)
 
 abbrev pub Sized : ℕ → Command → Type 0
 Sized size (Store frame symbols) = length (now symbols) ≡ size
@@ -72,7 +87,7 @@ Parses script size p = (script ≡ spelling (p .command) ++ now (p .rest)) × Si
 
 abbrev pub Fails : List ℕ → ℕ → Refusal → Type 0
 Fails script size e =
-    ((0 < length script) × (operands size (getD script 0 0) ≡ 0) × (e ≡ UnknownCommand))
+    ((0 < length script) × (operandBytes size (getD script 0 0) ≡ 0) × (e ≡ UnknownCommand))
     ⊎ ((length script < width size script) × (e ≡ EndsEarly))
 
 abbrev pub Commands : List ℕ → ℕ → Result Parsed Refusal → Type 0

@@ -95,10 +95,10 @@ pub fn parse_header<'a>(script: &'a [u8]) -> Result<Opened<'a>, Refusal>
 fn parse_store<'a>(operands: &'a [u8], record_size: usize) -> Result<Parsed<'a>, Refusal>
     ensures value { λ r. ⌜ Commands (83 ∷ now (operands .entry)) «record_size» r ⌝ }
 {
-    let [high, low, rest @ ..] = operands else {
+    let [high, low, tail @ ..] = operands else {
         return Err(Refusal::EndsEarly);
     };
-    let Some((symbols, rest)) = rest.split_at_checked(record_size) else {
+    let Some((symbols, rest)) = tail.split_at_checked(record_size) else {
         return Err(Refusal::EndsEarly);
     };
     let frame = join(*high, *low);

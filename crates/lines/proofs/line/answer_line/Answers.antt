@@ -10,8 +10,8 @@ returns c = record {
       let answered = c .put-answer-answered .ensures in
       let newline = c .put .ensures .value in
       inr (
-          λ bad. elim bad [ inl size ↦ size (omega arith) | inr long ↦ omega (arith, c .symbols-given .ensures .value, c .if-symbols-given-gt-RECORD-MOST .left) ],
-          printed _ _ _ _ (omega (arith, answered .below, newline .end))
-          (puts-more _ _ _ _ _ _ _ _ (named .value) (puts-more _ _ _ _ _ _ _ _ (answered .value) newline))
+        λ bad. elim bad [ inl size ↦ size (omega arith) | inr long ↦ omega (arith, c .symbols-given .ensures .value, c .if-symbols-given-gt-RECORD-MOST .left) ],
+        printed _ _ _ _ (omega (arith, answered .below, newline .end))
+            (puts-more _ _ _ _ _ _ _ _ (named .value) (puts-more _ _ _ _ _ _ _ _ (answered .value) newline)),
       );
 }

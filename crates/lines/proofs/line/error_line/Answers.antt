@@ -13,8 +13,8 @@ returns c = record {
       let same = puts-as _ _ _ _ _ _ (ap figure (c .number .ensures .value)) (number .value) in
       let newline = c .put .ensures .value in
       inr (
-          λ bad. bad (omega arith),
-          printed _ _ _ _ (omega (arith, mark .end, number .below .0, newline .end))
-          (puts-more _ _ _ _ _ _ _ _ mark (puts-more _ _ _ _ _ _ _ _ same newline))
+        λ bad. bad (omega arith),
+        printed _ _ _ _ (omega (arith, mark .end, number .below .0, newline .end))
+            (puts-more _ _ _ _ _ _ _ _ mark (puts-more _ _ _ _ _ _ _ _ same newline)),
       );
 }

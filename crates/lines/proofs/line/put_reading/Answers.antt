@@ -15,14 +15,14 @@ returns c =
     record {
       value = puts-more _ _ _ _ _ _ _ _ (number .value) (puts-more _ _ _ _ _ _ _ _ (first .value) (puts-more _ _ _ _ _ _ _ _ (second .value) tail));
       below = omega (
-          arith,
-          c .pre .room,
-          number .below .1 (omega arith),
-          first .below .0,
-          second .below .0,
-          third .below .0,
-          space .end,
-          symbols .end,
-          length-hexes (c .args .symbols .now)
+        arith,
+        c .pre .room,
+        number .below .1 (omega arith),
+        first .below .0,
+        second .below .0,
+        third .below .0,
+        space .end,
+        symbols .end,
+        length-hexes (c .args .symbols .now),
       );
     }
