@@ -1,0 +1,3 @@
+pub mod Commanding
+pub mod Fronts
+pub mod Spelled

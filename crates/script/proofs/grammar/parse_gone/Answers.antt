@@ -1,0 +1,15 @@
+use mathlib.Core.Path.{_≡_}
+use Prim.Native.Nat.{_≤_}
+use lib.ListN.{length}
+use borrow.Author.Needs.{needs}
+use Rattle.script.proofs.Fronts.{front}
+use Rattle.script.proofs.grammar.parse_gone.Needs as need
+
+pub returns : need.returns
+returns c = record {
+  value = λ size.
+      let l : 3 ≤ length (c .args .operands .now) = search needs in
+      let e = front (c .args .operands .now) 3 l in
+      let two = c .join-frame .ensures .value in
+      (cc, tt);
+}
