@@ -21,6 +21,7 @@ const ARGUMENT: usize = 131072;
 // What is kept of a line: no record is so long.
 const KEPT: usize = 64;
 
+// What is read at once.
 const CHUNK: usize = 65536;
 
 // What was answered so far.

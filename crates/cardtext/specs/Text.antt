@@ -6,7 +6,7 @@
 --   Stranger     a place of a line whose byte is not in the alphabet
 --   Group        a strip's characters from a place on, and what ends it
 --   ending       what ends strip j of n: a space, and a newline after the last
---   Text         the first n strips of an array, one after the other
+--   Text         the first t of the n strips of an array, one after the other
 --   no-line      why a line is refused, in this order
 --   Made         the line holds a record, and the buffer begins with the line of its frame; its other bytes are as they were
 --   Frames-line  refused, and the buffer is as it was; or made, and the answer is the length of the line
@@ -54,7 +54,6 @@ pub record Group (text : List ℕ) (at m : ℕ) (xs : List ℕ) (from end : ℕ)
 abbrev pub ending : ℕ → ℕ → ℕ
 ending n j = cond (ltb (j + 1) n) 32 10
 
--- of n strips, the first t
 abbrev pub Text : ℕ → ℕ → List ℕ → List ℕ → ℕ → Type 0
 Text m n xs text t = (j : ℕ) → j < t → Group text (j * width m) m xs (j * m) (ending n j)
 

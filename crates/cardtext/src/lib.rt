@@ -5,6 +5,7 @@ mod record;
 mod text;
 
 pub use line::keep;
+pub use line::kept_is_enough;
 pub use number::parse_number;
 pub use record::LINE;
 pub use record::frame_line;

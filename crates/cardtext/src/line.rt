@@ -5,7 +5,7 @@ ghost use mathlib.Core.List.{List, [], _∷_, _++_};
 ghost use Prim.Native.Nat.{ℕ, _+_};
 ghost use lib.ListN.{length, set};
 ghost use lib.Dec.{ltb};
-ghost use Rattle.cardtext.specs.Kept.{Kept};
+ghost use Rattle.cardtext.specs.Kept.{Kept, Enough};
 
 /// Adds a byte to the `count` that the buffer holds, if there is room for it, and answers how many it now holds.
 pub fn keep(buffer: &mut [u8], count: usize, byte: u8) -> usize
@@ -19,4 +19,11 @@ pub fn keep(buffer: &mut [u8], count: usize, byte: u8) -> usize
     } else {
         count
     }
+}
+
+/// What `keep` holds in a buffer of more than 36 bytes is enough: `frame_line` answers it as it would the whole line.
+pub fn kept_is_enough() -> u8
+    ensures value { λ _. ⌜ Enough ⌝ }
+{
+    0
 }
