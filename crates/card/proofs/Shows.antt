@@ -25,7 +25,7 @@ card-limits c xs = within-limits (c .frames) (c .strips) (c .squares) 37 (cardRe
 
 module _ (c : Counts) (xs : List ℕ) (f s k : ℕ) (hf : f < c .frames) (hs : s < c .strips) (hk : k < c .squares) where
   answers : (b : Bool) → eqb (length xs) (sizeOf (c .frames) (c .strips) (width (c .squares))) ≡ b
-    → lookOf (cardShows c xs) f s k ≡ Ok (cond (cond b (stripGone xs (stripAt (c .strips) (width (c .squares)) f s) (c .squares)) true) Gone (lookOn (squareOf (valueOf (getD xs (charAt (c .strips) (c .squares) f s k) 0)))))
+      → lookOf (cardShows c xs) f s k ≡ Ok (cond (cond b (stripGone xs (stripAt (c .strips) (width (c .squares)) f s) (c .squares)) true) Gone (lookOn (squareOf (valueOf (getD xs (charAt (c .strips) (c .squares) f s k) 0)))))
   answers b e =
       look-answers (c .frames) (c .strips) (c .squares) 37 (cardReads (c .frames) (c .strips) (c .squares) xs) f s k hf hs hk
       ∙ (λ i. Ok (cond (cond (e i) (stripGone xs (stripAt (c .strips) (width (c .squares)) f s) (c .squares)) true) Gone (lookOn (bounded-letter (getD xs (charAt (c .strips) (c .squares) f s k) 0) i))))
@@ -36,7 +36,7 @@ module _ (c : Counts) (xs : List ℕ) (f s k : ℕ) (hf : f < c .frames) (hs : s
 
   -- else as its characters say; the numbers of the strip's place and width by what they are equal to
   pub look-suited : eqb (length xs) (sizeOf (c .frames) (c .strips) (width (c .squares))) ≡ true → (at m w : ℕ) → at ≡ stripAt (c .strips) w f s → w ≡ width (c .squares) → m ≡ c .squares
-    → lookOf (cardShows c xs) f s k ≡ Ok (cond (stripGone xs at m) Gone (lookOn (squareOf (valueOf (getD xs (at + k) 0)))))
+      → lookOf (cardShows c xs) f s k ≡ Ok (cond (stripGone xs at m) Gone (lookOn (squareOf (valueOf (getD xs (at + k) 0)))))
   look-suited e at m w ea ew em =
       answers true e
       ∙ sym ((λ i. Ok (cond (stripGone xs (ea i) (em i)) Gone (lookOn (squareOf (valueOf (getD xs (ea i + k) 0))))))

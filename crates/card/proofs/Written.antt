@@ -25,7 +25,7 @@ use Rattle.card.proofs.Letters.{letter-value, letter-is}
 use Rattle.card.proofs.Tested.{every-fails, every-same}
 
 pub card-written : (c : Counts) (xs ys codes : List ℕ) (f : ℕ) → f < c .frames → length xs ≡ sizeOf (c .frames) (c .strips) (width (c .squares)) → length codes ≡ c .strips * c .squares → Below 37 codes
-  → Stored (c .strips) (c .squares) f codes xs ys → Written (cardShows c xs) f codes (cardShows c ys)
+    → Stored (c .strips) (c .squares) f codes xs ys → Written (cardShows c xs) f codes (cardShows c ys)
 card-written c xs ys codes f there long many below put =
     let fs = c .frames in
     let n = c .strips in

@@ -74,6 +74,6 @@ impl<'a> Card<'a> {
         ensures counts { λ r. ⌜ r .counts ≡ counts ⌝ }
     {
         fill(bytes, counts);
-        Card { bytes, counts }
+        Card { counts, bytes }
     }
 }

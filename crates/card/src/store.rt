@@ -52,12 +52,7 @@ fn store_frame(bytes: &mut [u8], counts: Counts, frame: usize, codes: &[u8])
 }
 
 // Writes the codes of a frame of a card over these bytes.
-pub fn write_at(
-    bytes: &mut [u8],
-    counts: Counts,
-    frame: usize,
-    codes: &[u8],
-) -> Result<(), Refusal>
+pub fn write_at(bytes: &mut [u8], counts: Counts, frame: usize, codes: &[u8]) -> Result<(), Refusal>
     ensures frame { λ r. ⌜ Writes (cardShows counts (now (bytes .entry))) frame (now (codes .entry)) r (cardShows counts (now (bytes .exit))) ⌝ }
     ensures left { λ r. ⌜ Cases r (λ _. Stored (counts .strips) (counts .squares) frame (now (codes .entry)) (now (bytes .entry)) (now (bytes .exit))) (λ _. now (bytes .exit) ≡ now (bytes .entry)) ⌝ }
 {

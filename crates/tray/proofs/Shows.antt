@@ -38,7 +38,7 @@ module _ (c : Counts) (xs : List ℕ) (f s k : ℕ) (hf : f < c .frames) (hs : s
 
   -- else as its bytes say; the numbers of the strip's place and width by what they are equal to
   pub look-suited : eqb (length xs) (sizeOf (c .frames) (c .strips) (width (c .squares))) ≡ true → (at m : ℕ) → at ≡ stripAt (c .strips) (width (c .squares)) f s → m ≡ c .squares
-    → lookOf (trayShows c xs) f s k ≡ Ok (cond (not (eqb (getD xs at 0) 0)) Gone (lookOn (bounded 256 (squareOf (getD xs (at + 1 + k) 0) (getD xs (at + 1 + m + k) 0)))))
+      → lookOf (trayShows c xs) f s k ≡ Ok (cond (not (eqb (getD xs at 0) 0)) Gone (lookOn (bounded 256 (squareOf (getD xs (at + 1 + k) 0) (getD xs (at + 1 + m + k) 0)))))
   look-suited e at m ea em =
       answers
       ∙ ap (λ b. Ok (cond (cond b (not (eqb (getD xs (stripAt (c .strips) (width (c .squares)) f s) 0) 0)) true) Gone (lookOn (bounded 256 (trayReads (c .frames) (c .strips) (c .squares) xs .square f s k))))) e
@@ -46,7 +46,7 @@ module _ (c : Counts) (xs : List ℕ) (f s k : ℕ) (hf : f < c .frames) (hs : s
 
 -- a frame that took codes in shows them, and the other frames what they showed
 pub tray-written : (c : Counts) (xs ys codes : List ℕ) (f : ℕ) → f < c .frames → length xs ≡ sizeOf (c .frames) (c .strips) (width (c .squares)) → length codes ≡ c .strips * c .squares → Below 256 codes
-  → Stored (c .strips) (c .squares) f codes xs ys → Written (trayShows c xs) f codes (trayShows c ys)
+    → Stored (c .strips) (c .squares) f codes xs ys → Written (trayShows c xs) f codes (trayShows c ys)
 tray-written c xs ys codes f there long many below put =
     let fs = c .frames in
     let n = c .strips in

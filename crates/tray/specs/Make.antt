@@ -32,7 +32,7 @@ pub record Laid (c : Counts) (xs : List ℕ) (w : Meaning) : Type 0 where
   pub gone : (f s : ℕ) → f < c .frames → s < c .strips → w .gone f s ≡ not (eqb (getD xs (stripAt (c .strips) (width (c .squares)) f s) 0) 0)
   -- the logic has a memory as a list of numbers, so that a code byte is a byte is said here
   pub square : (f s k : ℕ) → f < c .frames → s < c .strips → k < c .squares → w .gone f s ≡ false → getD xs (codeAt (c .strips) (c .squares) f s k) 0 < 256
-    → w .square f s k ≡ squareOf (getD xs (codeAt (c .strips) (c .squares) f s k) 0) (getD xs (doubtAt (c .strips) (c .squares) f s k) 0)
+      → w .square f s k ≡ squareOf (getD xs (codeAt (c .strips) (c .squares) f s k) 0) (getD xs (doubtAt (c .strips) (c .squares) f s k) 0)
 
 abbrev pub freshByte : ℕ → ℕ → ℕ
 freshByte m i = cond (eqb (i % width m) 0) 1 0

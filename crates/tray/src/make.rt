@@ -72,6 +72,6 @@ impl<'a> Tray<'a> {
         ensures counts { λ r. ⌜ r .counts ≡ counts ⌝ }
     {
         fill(bytes, counts);
-        Tray { bytes, counts }
+        Tray { counts, bytes }
     }
 }

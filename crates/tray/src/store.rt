@@ -102,12 +102,7 @@ pub fn open_at(bytes: &[u8], counts: Counts, frame: usize) -> Result<bool, Refus
 }
 
 // Writes the codes of a frame of a tray over these bytes. A code is a byte, so none passes the levels.
-pub fn write_at(
-    bytes: &mut [u8],
-    counts: Counts,
-    frame: usize,
-    codes: &[u8],
-) -> Result<(), Refusal>
+pub fn write_at(bytes: &mut [u8], counts: Counts, frame: usize, codes: &[u8]) -> Result<(), Refusal>
     ensures frame { λ r. ⌜ Writes (trayShows counts (now (bytes .entry))) frame (now (codes .entry)) r (trayShows counts (now (bytes .exit))) ⌝ }
     ensures left { λ r. ⌜ Cases r (λ _. Stored (counts .strips) (counts .squares) frame (now (codes .entry)) (now (bytes .entry)) (now (bytes .exit))) (λ _. now (bytes .exit) ≡ now (bytes .entry)) ⌝ }
 {

@@ -59,12 +59,7 @@ pub fn set_doubt(
 }
 
 // Sets the status byte of a strip to 1.
-pub fn set_gone(
-    bytes: &mut [u8],
-    counts: Counts,
-    frame: usize,
-    strip: usize,
-) -> Result<(), Refusal>
+pub fn set_gone(bytes: &mut [u8], counts: Counts, frame: usize, strip: usize) -> Result<(), Refusal>
     ensures left { λ r. ⌜ Wears (no-strip counts frame strip) (now (bytes .entry)) (set (now (bytes .entry)) (stripAt (counts .strips) (widthOf (counts .squares)) frame strip) 1) r (now (bytes .exit)) ⌝ }
 {
     if frame >= counts.frames() || strip >= counts.strips() {
