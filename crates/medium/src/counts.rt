@@ -60,7 +60,8 @@ impl Counts {
         ensures value { λ r. ⌜ r ≡ now (self .entry) .strips * now (self .entry) .squares ⌝ }
         ensures below { λ r. ⌜ 1 ≤ r ⌝ ∗ ⌜ r ≤ 255 ⌝ }
     {
-        self.strips * self.squares
+        let strips = self.strips;
+        strips * self.squares
     }
 
     /// How many bytes a memory has in which each strip takes `width` bytes. Asks for a width that a strip can have.
@@ -68,7 +69,8 @@ impl Counts {
         requires { ⌜ width ≤ 511 ⌝ }
         ensures value { λ r. ⌜ r ≡ sizeOf (now (self .entry) .frames) (now (self .entry) .strips) width ⌝ }
     {
-        self.frames * self.strips * width
+        let strips = self.frames * self.strips;
+        strips * width
     }
 
     /// Where a strip starts in such a memory. Asks for a strip that there is.
