@@ -1,9 +1,13 @@
 // Looks at every byte value, as a status, a code, a doubt and a character, and prints a line for each.
 //
-// A line has the byte, then how a square looks: with the byte as its status, as its code and as its doubt on a tray, and as
+// The tray is looked at through a head that moves. A line has the byte, then how a square looks: with the byte as its status, as its code and as its doubt on a tray, and as
 // its character on a card, alone and beside an `A`. A clear square is its code; 256 is gone, 257 doubtful, 258 refused.
+mod head;
+
 use card::Card;
 use card::CardMedium;
+use head::Head;
+use head::HeadMedium;
 use medium::Look;
 use medium::Medium;
 use refusal::Refusal;
@@ -24,8 +28,9 @@ fn on_tray(memory: &mut [u8]) -> u16 {
     let Ok(counts) = Tray::test(1, 1, 1, memory.len()) else {
         return 258;
     };
-    let mut tray = Tray::over(memory, counts);
-    number(tray.look(0, 0, 0))
+    let medium = Tray::over(memory, counts);
+    let mut head = Head { medium, at: 9 };
+    number(head.look(0, 0, 0))
 }
 
 fn on_card(memory: &mut [u8], squares: usize) -> u16 {
