@@ -1,9 +1,8 @@
 // Making a tray: first a test that answers the number, then a making of what passed, which cannot refuse.
 //
 // The test hands out `Counts`, which keep the limits by their type; the making takes them with the memory. Nothing ties the
-// two together but the length, and a value that holds the memory cannot be handed out by a test that may refuse. So a making
-// asks nothing: over a memory of the wrong length the tray is closed and every strip of it gone, and no byte is ever written
-// by it. After the test this never comes about.
+// two together but the length, and a test that may refuse hands out no value that holds the memory. So a making asks nothing:
+// over a memory of the wrong length the tray is closed and every strip of it gone. After the test this never comes about.
 ghost use mathlib.Core.Path.{_≡_};
 ghost use Prim.Native.Nat.{ℕ, _<_};
 ghost use lib.ListN.{length, getD};

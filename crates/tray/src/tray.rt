@@ -24,6 +24,7 @@ pub struct Tray<'a> {
 }
 
 impl<'a> Tray<'a> {
+    // Through a shared borrow, after which the bytes are known to be the same.
     fn seen(&self, frame: usize, strip: usize, square: usize) -> Result<Look, Refusal>
         ensures value { λ r. ⌜ r ≡ lookOf (trayShows (now (self .entry) .counts) (now (now (self .entry) .bytes))) frame strip square ⌝ }
     {
