@@ -1,0 +1,4 @@
+pub mod Checks
+pub mod Rows
+pub mod Steps
+pub mod Strips

@@ -1,0 +1,2 @@
+// Correction: the frame that fits what is shown.
+mod erasures;
