@@ -1,4 +1,5 @@
 pub mod Checks
 pub mod Rows
+pub mod Sites
 pub mod Steps
 pub mod Strips

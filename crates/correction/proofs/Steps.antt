@@ -148,3 +148,17 @@ module _ (F : Ops) (L : Laws F) (m n c : ℕ) (strips : List ℕ) (gone : List B
         ]
       ];
     }
+
+-- with no listed square left there might as well be no list
+pub none-ahead : (F : Ops) (m n c : ℕ) (gone wrong : ℕ → Bool) (squares : List ℕ) (k : ℕ) (xs ys : List ℕ) → length squares ≤ k
+    → Near F m n c gone wrong squares k xs ys → Near F m n c gone wrong [] 0 xs ys
+none-ahead F m n c gone wrong squares k xs ys l near = record {
+  frame = near .frame;
+  room = near .room;
+  agrees = λ p lp. elim (near .agrees p lp) [
+    | inl e ↦ inl e
+    | inr (inl h) ↦ inr (inl h)
+    | inr (inr (inl h)) ↦ inr (inr (inl h))
+    | inr (inr (inr (i, li, lu, e))) ↦ absurd (omega arith)
+  ];
+}

@@ -1,2 +1,3 @@
 // Correction: the frame that fits what is shown.
+mod candidate;
 mod erasures;
