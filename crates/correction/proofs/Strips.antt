@@ -9,6 +9,7 @@ use native.Mathlib.Decide.{Fin·val-path}
 use native.Mathlib.Omega.{arith}
 use lib.ListN.{length, getD, take, drop}
 use Rattle.std.proofs.shelf.Lists.{ext-getD}
+use Rattle.std.proofs.shelf.Tests.{cases-eq}
 use Rattle.refusal.specs.Codes.{Below}
 use Rattle.laws.specs.Ops.{Ops, Laws, less, power as powerF, sum as sumF}
 use Rattle.algebra.specs.Frames.{square-locator}
@@ -17,10 +18,10 @@ use Rattle.algebra.proofs.Moments.{moment}
 use Rattle.algebra.proofs.Codes.{codes, at, β-apart, sum-val, power-val}
 use Rattle.algebra.proofs.Squares as Q
 use Rattle.solver.specs.Sums.{Word, marked}
-use Rattle.frame.specs.Tables.{Powers, Filled-in}
-use Rattle.frame.proofs.Strips.{in-strip, part-size, part-at}
+use Rattle.frame.specs.Tables.{Powers, Filled-in, Scattered}
+use Rattle.frame.proofs.Strips.{in-strip, same-strip, part-size, part-at}
 use Rattle.frame.proofs.Columns.{column-powers}
-use Rattle.correction.specs.Nearing.{Near, Held, Site, Found}
+use Rattle.correction.specs.Nearing.{Near, Held, Site, Found, Decodes}
 use Rattle.correction.proofs.Checks.{back, table-below}
 use Rattle.correction.proofs.Rows.{answer}
 use Rattle.correction.proofs.Steps.{β, error, error-none, error-sums}
@@ -82,3 +83,22 @@ module _ (F : Ops) (L : Laws F) (m n c : ℕ) (strips : List ℕ) (gone : List B
 
     pub restored : (after : List ℕ) → length after ≡ n * m → ((p : ℕ) → p < n * m → getD after p 0 ≡ less F (getD xs p 0) (getD solved p 0)) → after ≡ ys
     restored after size is = ext-getD 0 after ys (size ∙ sym (near .frame .size)) (λ p l. is p (omega arith) ∙ error-taken p (omega arith))
+
+other-row : (m i j h k : ℕ) → h < m → k < m → h ≢ k → i * m + h ≢ j * m + k
+other-row m i j h k lh lk ne e = let q = ap (λ t. t * m) (same-strip m i j h k lh lk e) in ne (omega arith)
+
+-- the errors of one row more
+pub found-more : (F : Ops) (m c h : ℕ) (strips : List ℕ) (gone : List Bool) (table columns columns′ row : List ℕ) → h < m → length row ≡ length strips
+    → Found F m c h strips gone table columns → Scattered m h (length row) row columns columns′ → Below (F .order) row
+    → Decodes F strips (take (h * c + c - h * c) (drop (h * c) table)) gone row → Found F m c (h + 1) strips gone table columns′
+found-more F m c h strips gone table columns columns′ row lh size found put below is = record {
+  below = λ k j lk lj. elim (cases-eq k h) [
+    | inl e ↦ rw (ap (λ t. getD columns′ (j * m + t) 0) e ∙ put .there j (omega arith)) (below j (omega arith))
+    | inr ne ↦ rw (put .others (j * m + k) (λ i _. other-row m j i k h (omega arith) lh ne)) (found .below k j (omega arith) lj)
+  ];
+  is = λ k lk wrong e word j lj. elim (cases-eq k h) [
+    | inl q ↦ ap (λ t. getD columns′ (j * m + t) 0) q ∙ put .there j (omega arith)
+        ∙ is wrong e (subst (λ (t : ℕ). Word F strips (take (t * c + c - t * c) (drop (t * c) table)) gone wrong e) q word) j lj
+    | inr ne ↦ put .others (j * m + k) (λ i _. other-row m j i k h (omega arith) lh ne) ∙ found .is k (omega arith) wrong e word j lj
+  ];
+}
