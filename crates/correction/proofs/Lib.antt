@@ -3,3 +3,5 @@ pub mod Rows
 pub mod Sites
 pub mod Steps
 pub mod Strips
+pub mod Silent
+pub mod Lists
