@@ -1,10 +1,11 @@
 -- Room to work in.
---   Desk   what one doubtful square takes: a row's sums, its marks, its errors, and a list to peel in
+--   Desk    what one doubtful square takes: a row's sums, its marks, its errors, and a list to peel in
+--   Bench   what one candidate takes: an array, its check sums, the strips' power sums, and a desk
 -- Assumes nothing.
 use mathlib.Core.Path.{_≡_}
 use mathlib.Core.Bool.{Bool}
 use mathlib.Core.List.{List}
-use Prim.Native.Nat.{ℕ}
+use Prim.Native.Nat.{ℕ, _*_}
 use lib.ListN.{length}
 
 pub record Desk (m n c : ℕ) (sums : List ℕ) (erased : List Bool) (row work : List ℕ) : Type 0 where
@@ -12,3 +13,9 @@ pub record Desk (m n c : ℕ) (sums : List ℕ) (erased : List Bool) (row work :
   pub erased-size : length erased ≡ n
   pub row-size : length row ≡ n
   pub work-size : length work ≡ m
+
+pub record Bench (m n c : ℕ) (array table columns : List ℕ) (sums : List ℕ) (erased : List Bool) (row work : List ℕ) : Type 0 where
+  pub array-size : length array ≡ n * m
+  pub table-size : length table ≡ m * c
+  pub columns-size : length columns ≡ n * m
+  pub desk : Desk m n c sums erased row work

@@ -1,3 +1,6 @@
 // Correction: the frame that fits what is shown.
+mod attempt;
 mod candidate;
 mod erasures;
+mod reading;
+mod search;

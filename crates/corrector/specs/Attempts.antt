@@ -1,0 +1,56 @@
+-- What one attempt at a fitting frame answers.
+--   Suited     a geometry's four numbers are those of the field, and of m squares, n strips and c checks
+--   Prepared   what every attempt starts from: locators, marks, what was read, and its check sums
+--   Hit        a frame that fits, and its counts
+--   Tried      a hit; or no frame that fits is close, with whichever square more the list covers
+--   Answered   a hit; or no frame fits
+--   Noted      the first squares of a list are the doubtful ones, and their points the locators
+-- Assumes nothing.
+use mathlib.Core.Path.{_≡_}
+use mathlib.Core.Bool.{Bool}
+use mathlib.Core.List.{List}
+use Prim.Native.Nat.{ℕ, _*_, _<_, _≤_}
+use lib.ListN.{length, getD, take}
+use Rattle.std.specs.declared.option.Option.{Option}
+use Rattle.std.specs.Options.{Cases}
+use Rattle.laws.specs.Ops.{Ops}
+use Rattle.algebra.specs.Frames.{IsFrame, square-locator}
+use Rattle.algebra.specs.Showings.{Showing, Fits}
+use Rattle.fitting.specs.declared.counts.Counts.{Counts}
+use Rattle.fitting.specs.Decision.{Counted}
+use Rattle.frame.specs.Tables.{Powers}
+use Rattle.correction.specs.Nearing.{Site, Held}
+use Rattle.correction.specs.Tries.{Readout, Masked, Covers, Doubted, Missed}
+
+pub record Suited (order squares strips checks q m n c : ℕ) : Type 0 where
+  pub order-is : order ≡ q
+  pub squares-are : squares ≡ m
+  pub strips-are : strips ≡ n
+  pub checks-are : checks ≡ c
+
+pub record Prepared (F : Ops) (m n c : ℕ) (w : Showing) (strips locators : List ℕ) (gone : List Bool) (base checks : List ℕ) : Type 0 where
+  pub site : Site F m n c strips gone
+  pub powers : Powers F (F .generator) locators
+  pub size : length locators ≡ n * m
+  pub mask : Masked n w gone
+  pub read : Readout m n w base
+  pub held : Held F m n c base checks
+
+pub record Hit (F : Ops) (limit m n c : ℕ) (w : Showing) (xs : List ℕ) (k : Counts) : Type 0 where
+  pub frame : IsFrame F m n c xs
+  pub fits : Fits limit m n c w xs
+  pub counted : Counted m n w xs k
+
+abbrev pub Tried : Ops → ℕ → ℕ → ℕ → ℕ → Showing → List ℕ → List ℕ → List ℕ → Option Counts → Type 0
+Tried F limit m n c w base squares xs r = Cases r ((extra : ℕ) → Covers m n w extra squares → Missed F limit m n c w base extra) (Hit F limit m n c w xs)
+
+abbrev pub Answered : Ops → ℕ → ℕ → ℕ → ℕ → Showing → List ℕ → Option Counts → Type 0
+Answered F limit m n c w xs r = Cases r ((ys : List ℕ) → IsFrame F m n c ys → Fits limit m n c w ys → ⊥) (Hit F limit m n c w xs)
+
+-- the first d squares of a list are the doubtful ones, and their points the locators
+pub record Noted (F : Ops) (m n : ℕ) (w : Showing) (d : ℕ) (squares points : List ℕ) : Type 0 where
+  pub doubted : Doubted m n w (take d squares)
+  pub located : (i : ℕ) → i < d → getD points i 0 ≡ square-locator F (getD squares i 0)
+  pub few : d ≤ m
+  pub squares-size : length squares ≡ m
+  pub points-size : length points ≡ m
