@@ -19,9 +19,9 @@ use Rattle.solver.specs.Sums.{marked}
 use Rattle.frame.specs.Tables.{Sums}
 use Rattle.frame.proofs.Strips.{in-strip}
 use Rattle.correction.specs.Nearing.{Near}
-use Rattle.correction.specs.Tries.{Readout, Masked, Covers, Close, Missed}
-use Rattle.correction.proofs.Silent.{close-near, fit-tried}
-use Rattle.corrector.specs.Attempts.{Suited, Prepared, Hit, Tried, Answered}
+use Rattle.correction.specs.Tries.{Covers, Close, Missed}
+use Rattle.correction.proofs.Silent.{close-near}
+use Rattle.corrector.specs.Attempts.{Suited, Prepared, Hit, Tried}
 
 -- a decision by the geometry's own numbers
 pub weighed-moved : (order squares strips checks q m n c : ℕ) → Suited order squares strips checks q m n c → (limit : ℕ) (w : Showing) (xs : List ℕ) (r : Option Counts)
@@ -64,14 +64,3 @@ module _ (F : Ops) (m n c : ℕ) (w : Showing) (strips locators : List ℕ) (gon
     fits = h .1;
     counted = h .0;
   }
-
--- every square that may be silent has been tried
-pub answered-none : (F : Ops) (m n c : ℕ) (w : Showing) (base : List ℕ) (limit : ℕ) → limit ≤ 1 → Readout m n w base → Missed F limit m n c w base (n * m)
-    → (2 + Rattle.algebra.specs.Showings.doubtful-squares m n w ≤ m → (p : ℕ) → p < n * m → Rattle.correction.specs.Tries.clear m w p ≡ true → Missed F limit m n c w base p)
-    → (ys : List ℕ) → IsFrame F m n c ys → Fits limit m n c w ys → ⊥
-answered-none F m n c w base limit one read none each ys frame fits = fit-tried F m n c w base ys read frame limit one fits none each
-
--- a hit is an answer
-pub answered-hit : (F : Ops) (m n c : ℕ) (w : Showing) (base squares xs : List ℕ) (limit : ℕ) (r : Option Counts) (k : Counts) → r ≡ Some k → Tried F limit m n c w base squares xs r → Answered F limit m n c w xs r
-answered-hit F m n c w base squares xs limit None k e h = absurd (let z : _≡_ {A = ℕ} 0 1 = cc in omega arith)
-answered-hit F m n c w base squares xs limit (Some x) k e h = h

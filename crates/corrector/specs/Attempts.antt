@@ -3,11 +3,12 @@
 --   Prepared   what every attempt starts from: locators, marks, what was read, and its check sums
 --   Hit        a frame that fits, and its counts
 --   Tried      a hit; or no frame that fits is close, with whichever square more the list covers
+--   Searched   a hit; or no frame that fits is close, with any clear square below a place more
 --   Answered   a hit; or no frame fits
 --   Noted      the first squares of a list are the doubtful ones, and their points the locators
 -- Assumes nothing.
 use mathlib.Core.Path.{_≡_}
-use mathlib.Core.Bool.{Bool}
+use mathlib.Core.Bool.{Bool, true}
 use mathlib.Core.List.{List}
 use Prim.Native.Nat.{ℕ, _*_, _<_, _≤_}
 use lib.ListN.{length, getD, take}
@@ -20,7 +21,7 @@ use Rattle.fitting.specs.declared.counts.Counts.{Counts}
 use Rattle.fitting.specs.Decision.{Counted}
 use Rattle.frame.specs.Tables.{Powers}
 use Rattle.correction.specs.Nearing.{Site, Held}
-use Rattle.correction.specs.Tries.{Readout, Masked, Covers, Doubted, Missed}
+use Rattle.correction.specs.Tries.{clear, Readout, Masked, Covers, Doubted, Missed}
 
 pub record Suited (order squares strips checks q m n c : ℕ) : Type 0 where
   pub order-is : order ≡ q
@@ -54,3 +55,7 @@ pub record Noted (F : Ops) (m n : ℕ) (w : Showing) (d : ℕ) (squares points :
   pub few : d ≤ m
   pub squares-size : length squares ≡ m
   pub points-size : length points ≡ m
+
+-- a hit; or no frame that fits is close, with any clear square below k more
+abbrev pub Searched : Ops → ℕ → ℕ → ℕ → ℕ → Showing → List ℕ → ℕ → List ℕ → Option Counts → Type 0
+Searched F limit m n c w base k xs r = Cases r ((p : ℕ) → p < k → clear m w p ≡ true → Missed F limit m n c w base p) (Hit F limit m n c w xs)
