@@ -1,5 +1,6 @@
 -- The noted squares with one clear square more, for one attempt. Assumes nothing.
 use mathlib.Core.Path.{_≡_, refl, sym, ap, subst, _∙_}
+use mathlib.Core.Logic.{_⊎_, inl, inr}
 use mathlib.Core.Bool.{Bool, true, false}
 use mathlib.Core.List.{List}
 use Prim.Native.Nat.{ℕ, suc, _+_, _*_, _<_, _≤_}
@@ -10,7 +11,7 @@ use Rattle.std.specs.declared.option.Option.{Option}
 use Rattle.std.specs.declared.option.Option.the-variants.{Some, None}
 use Rattle.std.specs.Options.{Cases, isSome}
 use Rattle.std.proofs.shelf.Tests.{true≢false}
-use Rattle.std.proofs.shelf.Lists.{take-set}
+use Rattle.std.proofs.shelf.Lists.{take-set, length-take-le}
 use Rattle.laws.specs.Ops.{Ops}
 use Rattle.algebra.specs.Frames.{square-locator, IsFrame}
 use Rattle.algebra.specs.Showings.{Showing, doubtful-squares, Fits}
@@ -20,7 +21,7 @@ use Rattle.correction.specs.Nearing.{Listed}
 use Rattle.correction.specs.Tries.{clear, Covers, Doubted, Missed, Readout}
 use Rattle.correction.proofs.Lists.{doubted-listed, doubted-covers, more-covers, more-listed}
 use Rattle.correction.proofs.Silent.{fit-tried}
-use Rattle.corrector.specs.Attempts.{Hit, Tried, Noted, Answered}
+use Rattle.corrector.specs.Attempts.{Hit, Tried, Noted, Searched, Answered}
 
 -- what an attempt says of one square that its list covers
 pub tried-at : (F : Ops) (limit m n c : ℕ) (w : Showing) (base squares xs : List ℕ) (r : Option Counts) → Tried F limit m n c w base squares xs r → (extra : ℕ) → Covers m n w extra squares
@@ -62,3 +63,19 @@ none-fits F limit m n c w base one read none each ys frame fits = fit-tried F m 
 pub none-of : (r : Option Counts) → isSome r ≡ false → r ≡ None
 none-of None e = refl
 none-of (Some k) e = absurd (true≢false e)
+
+module _ (F : Ops) (limit : ℕ) (one : limit ≤ 1) (m n c : ℕ) (w : Showing) (base : List ℕ) (read : Readout m n w base) (d : ℕ) (squares points : List ℕ) (noted : Noted F m n w d squares points) where
+  number : d ≡ doubtful-squares m n w
+  number = sym (length-take-le d squares (omega (arith, noted .few, noted .squares-size))) ∙ noted .doubted .number
+
+  -- no silent square, or no room for one
+  pub answered-early : (xs : List ℕ) (r : Option Counts) → Tried F limit m n c w base (take d squares) xs r → (isSome r ≡ true) ⊎ (m < 2 + d) → Answered F limit m n c w xs r
+  answered-early xs None h (inl e) = absurd (true≢false (sym e))
+  answered-early xs None h (inr l) = none-fits F limit m n c w base one read (h (n * m) (noted-covers F m n w d squares points noted)) (λ k p _ _. absurd (omega (arith, number)))
+  answered-early xs (Some k) h e = h
+
+  pub answered-late : (ys : List ℕ) (first : Option Counts) → Tried F limit m n c w base (take d squares) ys first → isSome first ≡ false
+      → (xs : List ℕ) (r : Option Counts) → Searched F limit m n c w base (n * m) xs r → Answered F limit m n c w xs r
+  answered-late ys None h e xs None s = none-fits F limit m n c w base one read (h (n * m) (noted-covers F m n w d squares points noted)) (λ k. s)
+  answered-late ys None h e xs (Some k) s = s
+  answered-late ys (Some k) h e xs r s = absurd (true≢false e)

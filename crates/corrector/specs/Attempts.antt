@@ -6,6 +6,8 @@
 --   Searched   a hit; or no frame that fits is close, with any clear square below a place more
 --   Answered   a hit; or no frame fits
 --   Noted      the first squares of a list are the doubtful ones, and their points the locators
+--   Weighable  the geometry keeps its rule, and neither too many strips are gone nor too many squares doubtful
+--   Summed     the check sums of what is read
 -- Assumes nothing.
 use mathlib.Core.Path.{_≡_}
 use mathlib.Core.Bool.{Bool, true}
@@ -16,10 +18,11 @@ use Rattle.std.specs.declared.option.Option.{Option}
 use Rattle.std.specs.Options.{Cases}
 use Rattle.laws.specs.Ops.{Ops}
 use Rattle.algebra.specs.Frames.{IsFrame, square-locator}
-use Rattle.algebra.specs.Showings.{Showing, Fits}
+use Rattle.algebra.specs.Showings.{Showing, gone-strips, doubtful-squares, Fits}
 use Rattle.fitting.specs.declared.counts.Counts.{Counts}
 use Rattle.fitting.specs.Decision.{Counted}
-use Rattle.frame.specs.Tables.{Powers}
+use Rattle.geometry.specs.Rule.{Rule}
+use Rattle.frame.specs.Tables.{Powers, Sums}
 use Rattle.correction.specs.Nearing.{Site, Held}
 use Rattle.correction.specs.Tries.{clear, Readout, Masked, Covers, Doubted, Missed}
 
@@ -59,3 +62,12 @@ pub record Noted (F : Ops) (m n : ℕ) (w : Showing) (d : ℕ) (squares points :
 -- a hit; or no frame that fits is close, with any clear square below k more
 abbrev pub Searched : Ops → ℕ → ℕ → ℕ → ℕ → Showing → List ℕ → ℕ → List ℕ → Option Counts → Type 0
 Searched F limit m n c w base k xs r = Cases r ((p : ℕ) → p < k → clear m w p ≡ true → Missed F limit m n c w base p) (Hit F limit m n c w xs)
+
+pub record Weighable (q m n c : ℕ) (w : Showing) : Type 0 where
+  pub rule : Rule q m n c
+  pub gone : gone-strips n w < c
+  pub doubtful : doubtful-squares m n w ≤ m
+
+pub record Summed (F : Ops) (m n c : ℕ) (w : Showing) (checks : List ℕ) : Type 0 where
+  pub size : length checks ≡ m * c
+  pub sums : (ys : List ℕ) → Readout m n w ys → Sums F m n c ys checks

@@ -4,3 +4,4 @@ mod candidate;
 mod erasures;
 mod reading;
 mod search;
+mod sums;
