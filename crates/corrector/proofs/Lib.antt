@@ -1,3 +1,4 @@
 pub mod Ranks
 pub mod Trying
 pub mod Noting
+pub mod Preparing

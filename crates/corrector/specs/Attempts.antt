@@ -8,6 +8,8 @@
 --   Noted      the first squares of a list are the doubtful ones, and their points the locators
 --   Weighable  the geometry keeps its rule, and neither too many strips are gone nor too many squares doubtful
 --   Summed     the check sums of what is read
+--   Ready      the field and the lengths are those of the geometry, and neither too many strips are gone nor too many squares doubtful
+--   Settled    a hit in the buffer; or no frame fits, and the buffer is as it was
 -- Assumes nothing.
 use mathlib.Core.Path.{_≡_}
 use mathlib.Core.Bool.{Bool, true}
@@ -24,6 +26,8 @@ use Rattle.fitting.specs.Decision.{Counted}
 use Rattle.geometry.specs.Rule.{Rule}
 use Rattle.frame.specs.Tables.{Powers, Sums}
 use Rattle.correction.specs.Nearing.{Site, Held}
+use Rattle.fitting.specs.Marks.{silent-limit}
+use Rattle.corrector.specs.Shown.{shows}
 use Rattle.correction.specs.Tries.{clear, Readout, Masked, Covers, Doubted, Missed}
 
 pub record Suited (order squares strips checks q m n c : ℕ) : Type 0 where
@@ -71,3 +75,16 @@ pub record Weighable (q m n c : ℕ) (w : Showing) : Type 0 where
 pub record Summed (F : Ops) (m n c : ℕ) (w : Showing) (checks : List ℕ) : Type 0 where
   pub size : length checks ≡ m * c
   pub sums : (ys : List ℕ) → Readout m n w ys → Sums F m n c ys checks
+
+pub record Ready (F : Ops) (order m n c : ℕ) (codes strips squares frame : List ℕ) : Type 0 where
+  pub order-is : order ≡ F .order
+  pub codes-size : length codes ≡ n * m
+  pub strips-size : length strips ≡ n
+  pub squares-size : length squares ≡ n * m
+  pub frame-size : length frame ≡ n * m
+  pub gone : gone-strips n (shows (F .order) codes strips squares) < c
+  pub doubtful : doubtful-squares m n (shows (F .order) codes strips squares) ≤ m
+
+abbrev pub Settled : Ops → ℕ → ℕ → ℕ → Showing → List ℕ → List ℕ → Option Counts → Type 0
+Settled F m n c w before after r =
+    Cases r (((ys : List ℕ) → IsFrame F m n c ys → Fits silent-limit m n c w ys → ⊥) × (after ≡ before)) (Hit F silent-limit m n c w after)

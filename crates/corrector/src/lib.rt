@@ -4,4 +4,8 @@ mod candidate;
 mod erasures;
 mod reading;
 mod search;
+mod showing;
 mod sums;
+
+pub use showing::correct;
+pub use sums::correct_sums;
