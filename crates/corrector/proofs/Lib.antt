@@ -2,3 +2,4 @@ pub mod Ranks
 pub mod Trying
 pub mod Noting
 pub mod Preparing
+pub mod Granting

@@ -114,6 +114,7 @@ summed F m n c w base table read size sums = record {
   sums = λ ys read′. subst (λ (zs : List ℕ). Sums F m n c zs table) (ext-getD 0 base ys (read .size ∙ sym (read′ .size)) (λ p l. read .is p (omega (arith, read .size)) ∙ sym (read′ .is p (omega (arith, read .size))))) sums;
 }
 
+-- a hit goes into the buffer
 pub settled-hit : (F : Ops) (m n c : ℕ) (w : Showing) (before after xs : List ℕ) (r : Option Counts) → isSome r ≡ true → after ≡ xs → Answered F silent-limit m n c w xs r → Settled F m n c w before after r
 settled-hit F m n c w before after xs None e q h = absurd (true≢false (sym e))
 settled-hit F m n c w before after xs (Some k) e q h = subst (λ (zs : List ℕ). Settled F m n c w before zs (Some k)) (sym q) h
