@@ -72,7 +72,11 @@ impl Geometry {
     pub fn frame_size(&self) -> usize
         ensures { λ r. ⌜ r ≡ now (self .entry) .strips * now (self .entry) .squares ⌝ }
     {
-        let Geometry { strips, squares, .. } = *self;
+        let Geometry {
+            strips,
+            squares,
+            ..
+        } = *self;
         strips * squares
     }
 
