@@ -65,7 +65,19 @@ pub fn attempt<F: Field>(
     array.copy_from_slice(base);
     table.copy_from_slice(checks);
     candidate::<F>(
-        m, c, strips, locators, gone, squares, points, array, table, columns, sums, erased, row,
+        m,
+        c,
+        strips,
+        locators,
+        gone,
+        squares,
+        points,
+        array,
+        table,
+        columns,
+        sums,
+        erased,
+        row,
         work,
     );
     check_sums::<F>(m, c, strips, locators, array, table, columns, row, work);

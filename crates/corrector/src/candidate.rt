@@ -103,7 +103,18 @@ pub fn candidate<F: Field>(
     ensures frame { λ _. ⌜ ((wrong : ℕ → Bool) (ys : List ℕ) → Near (F·Field .ops) m (length (now (strips .entry))) c (marked (now (gone .entry))) wrong (now (squares .entry)) 0 (now (array .entry)) ys → now (array .exit) ≡ ys) ⌝ }
 {
     erase_all::<F>(
-        m, c, strips, gone, squares, points, array, table, sums, erased, row, work,
+        m,
+        c,
+        strips,
+        gone,
+        squares,
+        points,
+        array,
+        table,
+        sums,
+        erased,
+        row,
+        work,
     );
     restore::<F>(m, c, strips, locators, gone, array, table, columns, row);
 }

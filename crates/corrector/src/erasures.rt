@@ -104,7 +104,20 @@ fn erase_one<F: Field>(
     ensures frame { λ _. ⌜ ((wrong : ℕ → Bool) (ys : List ℕ) → Near (F·Field .ops) m (length (now (strips .entry))) c (marked (now (gone .entry))) wrong (now (squares .entry)) k (now (array .entry)) ys → Near (F·Field .ops) m (length (now (strips .entry))) c (marked (now (gone .entry))) wrong (now (squares .entry)) (suc k) (now (array .exit)) ys) ⌝ }
 {
     let square = squares[k] as usize;
-    let x = error_at::<F>(m, c, strips, gone, squares, points, k, table, sums, erased, row, work);
+    let x = error_at::<F>(
+        m,
+        c,
+        strips,
+        gone,
+        squares,
+        points,
+        k,
+        table,
+        sums,
+        erased,
+        row,
+        work,
+    );
     array[square] = F::sub(array[square], x);
     take_out::<F>(table, m, c, x, strips[square / m], points[k]);
 }
@@ -132,6 +145,20 @@ pub fn erase_all<F: Field>(
     ensures frame { λ _. ⌜ ((wrong : ℕ → Bool) (ys : List ℕ) → Near (F·Field .ops) m (length (now (strips .entry))) c (marked (now (gone .entry))) wrong (now (squares .entry)) 0 (now (array .entry)) ys → Near (F·Field .ops) m (length (now (strips .entry))) c (marked (now (gone .entry))) wrong [] 0 (now (array .exit)) ys) ⌝ }
 {
     for k in 0..squares.len() {
-        erase_one::<F>(m, c, strips, gone, squares, points, k, array, table, sums, erased, row, work);
+        erase_one::<F>(
+            m,
+            c,
+            strips,
+            gone,
+            squares,
+            points,
+            k,
+            array,
+            table,
+            sums,
+            erased,
+            row,
+            work,
+        );
     }
 }

@@ -57,8 +57,26 @@ fn try_square<F: Field>(
     squares[d] = square as u8;
     points[d] = locators[square];
     attempt::<F>(
-        geometry, m, c, codes, strip_marks, square_marks, strips, locators, gone, base, checks,
-        &squares[..d + 1], &points[..d + 1], array, table, columns, sums, erased, row, work,
+        geometry,
+        m,
+        c,
+        codes,
+        strip_marks,
+        square_marks,
+        strips,
+        locators,
+        gone,
+        base,
+        checks,
+        &squares[..d + 1],
+        &points[..d + 1],
+        array,
+        table,
+        columns,
+        sums,
+        erased,
+        row,
+        work,
     )
 }
 
@@ -101,8 +119,28 @@ fn search_silent<F: Field>(
         let mark = strip_marks[square / m];
         if is_clear(order, mark, square_marks[square], codes[square]) {
             found = try_square::<F>(
-                geometry, m, c, codes, strip_marks, square_marks, strips, locators, gone, base,
-                checks, d, square, squares, points, array, table, columns, sums, erased, row, work,
+                geometry,
+                m,
+                c,
+                codes,
+                strip_marks,
+                square_marks,
+                strips,
+                locators,
+                gone,
+                base,
+                checks,
+                d,
+                square,
+                squares,
+                points,
+                array,
+                table,
+                columns,
+                sums,
+                erased,
+                row,
+                work,
             );
             if found.is_some() {
                 break 'search;
@@ -145,14 +183,51 @@ pub fn find<F: Field>(
     ensures value { λ r. ⌜ Answered (F·Field .ops) silent-limit m (length (now (strips .entry))) c (shows (F·Field .ops .order) (now (codes .entry)) (now («strip_marks» .entry)) (now («square_marks» .entry))) (now (array .exit)) r ⌝ }
 {
     let found = attempt::<F>(
-        geometry, m, c, codes, strip_marks, square_marks, strips, locators, gone, base, checks,
-        &squares[..d], &points[..d], array, table, columns, sums, erased, row, work,
+        geometry,
+        m,
+        c,
+        codes,
+        strip_marks,
+        square_marks,
+        strips,
+        locators,
+        gone,
+        base,
+        checks,
+        &squares[..d],
+        &points[..d],
+        array,
+        table,
+        columns,
+        sums,
+        erased,
+        row,
+        work,
     );
     if found.is_some() || m - d < 2 {
         return found;
     }
     search_silent::<F>(
-        geometry, m, c, codes, strip_marks, square_marks, strips, locators, gone, base, checks, d,
-        squares, points, array, table, columns, sums, erased, row, work,
+        geometry,
+        m,
+        c,
+        codes,
+        strip_marks,
+        square_marks,
+        strips,
+        locators,
+        gone,
+        base,
+        checks,
+        d,
+        squares,
+        points,
+        array,
+        table,
+        columns,
+        sums,
+        erased,
+        row,
+        work,
     )
 }

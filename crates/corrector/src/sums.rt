@@ -66,8 +66,27 @@ fn read_and_find<F: Field>(
         points,
     );
     find::<F>(
-        geometry, m, c, codes, strip_marks, square_marks, strips, locators, gone, base, checks, d,
-        squares, points, array, table, columns, sums, erased, row, work,
+        geometry,
+        m,
+        c,
+        codes,
+        strip_marks,
+        square_marks,
+        strips,
+        locators,
+        gone,
+        base,
+        checks,
+        d,
+        squares,
+        points,
+        array,
+        table,
+        columns,
+        sums,
+        erased,
+        row,
+        work,
     )
 }
 
