@@ -17,8 +17,8 @@ use Rattle.algebra.specs.Frames.{IsFrame, IsRecord, FrameOf, record-size}
 use Rattle.algebra.specs.Showings.{count, doubtful-squares}
 use Rattle.fitting.specs.declared.counts.Counts.{Counts}
 use Rattle.fitting.specs.Marks.{silent-limit, marked}
-use Rattle.corrector.specs.Shown.{shows}
-use Rattle.corrector.specs.Attempts.{Ready, Hit}
+use Rattle.attempts.specs.Shown.{shows}
+use Rattle.attempts.specs.Attempts.{Ready, Hit}
 use Rattle.corrector.specs.Corrects.{no-correct, Corrected}
 
 -- a frame is the frame of the record that it begins with
