@@ -102,9 +102,11 @@ module _ (F : Ops) (L : Laws F) (m n c : ℕ) (rule : Rule (F .order) m n c) whe
       size = length-set xs s (less F (getD xs s 0) x) ∙ held .size;
       below = below′;
       table-size = size;
-      sums = record { sums = λ h i lh li. taken .done h i lh li
-          ∙ ap (λ t. less F t (F .mul (F .mul x (powerF F (square-locator F s) h)) (powerF F (strip-locator F (s / m)) i))) (held .sums .sums h i lh li ∙ sym (check-code xs (held .below) h i))
-          ∙ ap (λ t. less F (Q.check K n m loc loc (at F L xs (held .below)) h i .0) t) (sym (weight s x lx h i))
-          ∙ sym (ap (λ z. z .0) (Q.take-out K n m loc loc (at F L xs (held .below)) (at F L after below′) s (x, lx) l (Fin·val-path here) (λ p _ ne. Fin·val-path (there p ne)) h i))
-          ∙ check-code after below′ h i };
+      sums = record {
+        sums = λ h i lh li. taken .done h i lh li
+            ∙ ap (λ t. less F t (F .mul (F .mul x (powerF F (square-locator F s) h)) (powerF F (strip-locator F (s / m)) i))) (held .sums .sums h i lh li ∙ sym (check-code xs (held .below) h i))
+            ∙ ap (λ t. less F (Q.check K n m loc loc (at F L xs (held .below)) h i .0) t) (sym (weight s x lx h i))
+            ∙ sym (ap (λ z. z .0) (Q.take-out K n m loc loc (at F L xs (held .below)) (at F L after below′) s (x, lx) l (Fin·val-path here) (λ p _ ne. Fin·val-path (there p ne)) h i))
+            ∙ check-code after below′ h i;
+      };
     }

@@ -29,8 +29,12 @@ module _ (m n : ℕ) (w : Showing) where
       → ((p : ℕ) → p < n * m → doubt m w p ≡ true → getD squares (count p (doubt m w)) 0 ≡ p) → Doubted m n w (take d squares)
   doubted squares d e room at = record {
     number = size ∙ e;
-    all = λ p l h. (count p (doubt m w), omega arith, omega (arith, size, count-room (doubt m w) p (n * m) l h),
-        getD-take d squares (count p (doubt m w)) 0 (omega (arith, count-room (doubt m w) p (n * m) l h)) ∙ at p l h);
+    all = λ p l h. (
+      count p (doubt m w),
+      omega arith,
+      omega (arith, size, count-room (doubt m w) p (n * m) l h),
+      getD-take d squares (count p (doubt m w)) 0 (omega (arith, count-room (doubt m w) p (n * m) l h)) ∙ at p l h,
+    );
     places = λ i l. let r = ranked i l in subst (λ (z : ℕ). z < n * m) (sym (r .3)) (r .1);
     only = λ i l. let r = ranked i l in ap (doubt m w) (r .3) ∙ r .2 .0;
     apart = λ i j li lj q. let r = ranked i li in let t = ranked j lj in sym (r .2 .1) ∙ ap (λ k. count k (doubt m w)) (sym (r .3) ∙ q ∙ t .3) ∙ t .2 .1;

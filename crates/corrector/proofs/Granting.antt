@@ -17,8 +17,8 @@ use Rattle.algebra.specs.Frames.{IsFrame, IsRecord, FrameOf, record-size}
 use Rattle.algebra.specs.Showings.{count, doubtful-squares}
 use Rattle.fitting.specs.declared.counts.Counts.{Counts}
 use Rattle.fitting.specs.Marks.{silent-limit, marked}
-use Rattle.corrector.specs.Shown.{shows}
-use Rattle.corrector.specs.Attempts.{Ready, Hit}
+use Rattle.attempts.specs.Shown.{shows}
+use Rattle.attempts.specs.Attempts.{Ready, Hit}
 use Rattle.corrector.specs.Corrects.{no-correct, Corrected}
 
 -- a frame is the frame of the record that it begins with
@@ -34,20 +34,30 @@ pub granted-hit : (F : Ops) (order m n c : ℕ) (codes strips squares before aft
     → Outcome (no-correct F order m n c (shows (F .order) codes strips squares) codes strips squares before) (after ≡ before)
     (Corrected F m n c (shows (F .order) codes strips squares) after r) r
 granted-hit F order m n c codes strips squares before after k r r-is ready hit =
-    inr ((λ ne. ne (ready .order-is)),
-    inr ((λ s. elim s [ inl e ↦ e (ready .codes-size) | inr (inl e) ↦ e (ready .strips-size) | inr (inr (inl e)) ↦ e (ready .squares-size) | inr (inr (inr e)) ↦ e (ready .frame-size) ]),
-    inr ((λ l. omega (arith, ready .gone)),
-    inr ((λ l. omega (arith, ready .doubtful)),
-    inr ((λ none. none (take (record-size m n c) after) after (record { frame = hit .frame; begins = refl }) (hit .fits)),
-    record {
-      symbols = take (record-size m n c) after;
-      is-record = begins-record F m n c after (hit .frame);
-      frame = record { frame = hit .frame; begins = refl };
-      fits = hit .fits;
-      counts = k;
-      counted = hit .counted;
-      value = r-is;
-    })))))
+    inr (
+      (λ ne. ne (ready .order-is)),
+      inr (
+        (λ s. elim s [ inl e ↦ e (ready .codes-size) | inr (inl e) ↦ e (ready .strips-size) | inr (inr (inl e)) ↦ e (ready .squares-size) | inr (inr (inr e)) ↦ e (ready .frame-size) ]),
+        inr (
+          (λ l. omega (arith, ready .gone)),
+          inr (
+            (λ l. omega (arith, ready .doubtful)),
+            inr (
+              (λ none. none (take (record-size m n c) after) after (record { frame = hit .frame; begins = refl }) (hit .fits)),
+              record {
+                symbols = take (record-size m n c) after;
+                is-record = begins-record F m n c after (hit .frame);
+                frame = record { frame = hit .frame; begins = refl };
+                fits = hit .fits;
+                counts = k;
+                counted = hit .counted;
+                value = r-is;
+              },
+            ),
+          ),
+        ),
+      ),
+    )
 
 -- the tests that were passed
 pub ready-by : (F : Ops) (order m n c order′ m′ : ℕ) (codes strips squares frame : List ℕ) (gone doubtful : ℕ) → order ≡ F .order → order′ ≡ order → m′ ≡ m

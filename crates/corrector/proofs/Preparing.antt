@@ -23,9 +23,9 @@ use Rattle.correction.specs.Nearing.{Site, Held}
 use Rattle.correction.specs.Tries.{Readout, Masked}
 use Rattle.correction.proofs.Silent.{count-cong}
 use Rattle.correction.proofs.Lists.{doubted}
-use Rattle.corrector.specs.Shown.{shows, Ranked, Sized}
-use Rattle.corrector.specs.Attempts.{Suited, Prepared, Noted, Weighable, Summed, Ready, Answered, Settled}
-use Rattle.corrector.proofs.Ranks.{ranked-located}
+use Rattle.attempts.specs.Shown.{shows, Ranked, Sized}
+use Rattle.attempts.specs.Attempts.{Suited, Prepared, Noted, Weighable, Summed, Ready, Answered, Settled}
+use Rattle.attempts.proofs.Ranks.{ranked-located}
 
 module _ (F : Ops) (m n c q : ℕ) (q-is : q ≡ F .order) (codes sm qm : List ℕ) (weighable : Weighable (F .order) m n c (shows (F .order) codes sm qm)) (strips locators : List ℕ) (size : length strips ≡ n)
     (locators-size : length locators ≡ n * m) (root root′ : ℕ) (root-is : root ≡ F .generator) (root′-is : root′ ≡ F .generator) (ps : Powers F root strips) (pl : Powers F root′ locators) where

@@ -1,4 +1,2 @@
 pub mod Rooms
-pub mod Shown
-pub mod Attempts
 pub mod Corrects

@@ -1,10 +1,7 @@
--- Room to work in.
---   Desk    what one doubtful square takes: a row's sums, its marks, its errors, and a list to peel in
---   Bench   what one candidate takes: an array, its check sums, the strips' power sums, and a desk
---   Shelf   what is made once for all attempts: locators, marks, what was read, the doubtful squares and their locators
---   Wide, Broad   a shelf and a bench before they are cut to size: no list is longer than 256
---   Sheet   what summing up takes: locators, what was read, its check sums, the strips' power sums, and a row
---   Spread  a sheet before it is cut to size
+-- Room to work in, before and after it is cut to size: no list of a geometry is longer than 256.
+--   Wide, Broad   a shelf and a bench before they are cut
+--   Sheet         what summing up takes: locators, what was read, its check sums, the strips' power sums, and a row
+--   Spread        a sheet before it is cut
 -- Assumes nothing.
 use mathlib.Core.Path.{_≡_}
 use mathlib.Core.Bool.{Bool}
@@ -12,27 +9,6 @@ use mathlib.Core.List.{List}
 use Prim.Native.Nat.{ℕ, _*_}
 use lib.ListN.{length}
 
-pub record Desk (m n c : ℕ) (sums : List ℕ) (erased : List Bool) (row work : List ℕ) : Type 0 where
-  pub sums-size : length sums ≡ c
-  pub erased-size : length erased ≡ n
-  pub row-size : length row ≡ n
-  pub work-size : length work ≡ m
-
-pub record Bench (m n c : ℕ) (array table columns : List ℕ) (sums : List ℕ) (erased : List Bool) (row work : List ℕ) : Type 0 where
-  pub array-size : length array ≡ n * m
-  pub table-size : length table ≡ m * c
-  pub columns-size : length columns ≡ n * m
-  pub desk : Desk m n c sums erased row work
-
-pub record Shelf (m n : ℕ) (strips locators : List ℕ) (gone : List Bool) (base squares points : List ℕ) : Type 0 where
-  pub strips-size : length strips ≡ n
-  pub locators-size : length locators ≡ n * m
-  pub gone-size : length gone ≡ n
-  pub base-size : length base ≡ n * m
-  pub squares-size : length squares ≡ m
-  pub points-size : length points ≡ m
-
--- a place for each byte
 pub record Wide (strips locators : List ℕ) (gone : List Bool) (base squares points : List ℕ) : Type 0 where
   pub strips-size : length strips ≡ 256
   pub locators-size : length locators ≡ 256

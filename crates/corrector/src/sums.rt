@@ -7,13 +7,14 @@ ghost use lib.ListN.{length, getD, take};
 ghost use Rattle.laws.specs.Ops.{Ops, Laws};
 ghost use Rattle.geometry.specs.Rule.{Rule};
 ghost use Rattle.fitting.specs.Marks.{silent-limit};
-ghost use Rattle.corrector.specs.Rooms.{Bench, Shelf, Wide, Broad};
-ghost use Rattle.corrector.specs.Shown.{shows, Sized};
-ghost use Rattle.corrector.specs.Attempts.{Suited, Answered, Weighable, Summed, Ready, Settled};
-use crate::reading::list_doubtful;
-use crate::reading::mark_gone;
-use crate::reading::read_out;
-use crate::search::find;
+ghost use Rattle.attempts.specs.Rooms.{Bench, Shelf};
+ghost use Rattle.corrector.specs.Rooms.{Wide, Broad};
+ghost use Rattle.attempts.specs.Shown.{shows, Sized};
+ghost use Rattle.attempts.specs.Attempts.{Suited, Answered, Weighable, Summed, Ready, Settled};
+use attempts::find;
+use attempts::list_doubtful;
+use attempts::mark_gone;
+use attempts::read_out;
 use field::Field;
 use fitting::Counts;
 use frame::powers;
@@ -66,8 +67,27 @@ fn read_and_find<F: Field>(
         points,
     );
     find::<F>(
-        geometry, m, c, codes, strip_marks, square_marks, strips, locators, gone, base, checks, d,
-        squares, points, array, table, columns, sums, erased, row, work,
+        geometry,
+        m,
+        c,
+        codes,
+        strip_marks,
+        square_marks,
+        strips,
+        locators,
+        gone,
+        base,
+        checks,
+        d,
+        squares,
+        points,
+        array,
+        table,
+        columns,
+        sums,
+        erased,
+        row,
+        work,
     )
 }
 

@@ -3,7 +3,7 @@ use Prim.Native.Nat.{ℕ, _*_, _<_, _≤_}
 use native.Mathlib.Omega.{arith}
 use lib.ListN.{length}
 use Rattle.std.specs.declared.result.Result.the-variants.{Ok}
-use Rattle.corrector.specs.Attempts.{Ready}
+use Rattle.attempts.specs.Attempts.{Ready}
 use Rattle.corrector.proofs.Granting.{granted-hit, ready-by}
 use Rattle.corrector.proofs.showing.correct.Needs as need
 

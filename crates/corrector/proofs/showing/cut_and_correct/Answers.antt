@@ -4,8 +4,8 @@ use Prim.Native.Nat.{ℕ, _+_, _*_, _<_, _≤_}
 use native.Mathlib.Omega.{arith}
 use lib.ListN.{length, take, drop}
 use Rattle.std.proofs.shelf.Lists.{length-take-le, length-append, take-at}
-use Rattle.corrector.specs.Shown.{shows, Sized}
-use Rattle.corrector.specs.Attempts.{Summed}
+use Rattle.attempts.specs.Shown.{shows, Sized}
+use Rattle.attempts.specs.Attempts.{Summed}
 use Rattle.corrector.proofs.Preparing.{small, renamed, ready-sized}
 use Rattle.corrector.proofs.showing.cut_and_correct.Needs as need
 

@@ -4,7 +4,7 @@ use native.Mathlib.Omega.{arith}
 use lib.ListN.{length}
 use Rattle.frame.specs.Tables.{Sums}
 use Rattle.correction.specs.Tries.{Readout}
-use Rattle.corrector.specs.Shown.{shows}
+use Rattle.attempts.specs.Shown.{shows}
 use Rattle.corrector.proofs.Preparing.{summed}
 use Rattle.corrector.proofs.showing.sum_up.Needs as need
 

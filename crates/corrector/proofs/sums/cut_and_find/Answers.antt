@@ -6,8 +6,8 @@ use native.Mathlib.Omega.{arith}
 use lib.ListN.{length, take, drop}
 use Rattle.std.proofs.shelf.Lists.{length-take-le, take-at}
 use Rattle.fitting.specs.Marks.{silent-limit}
-use Rattle.corrector.specs.Shown.{shows, Sized}
-use Rattle.corrector.specs.Attempts.{Answered, Summed, Weighable}
+use Rattle.attempts.specs.Shown.{shows, Sized}
+use Rattle.attempts.specs.Attempts.{Answered, Summed, Weighable}
 use Rattle.corrector.proofs.Preparing.{small, renamed, ready-weighable, ready-sized, settled-hit, settled-none}
 use Rattle.corrector.proofs.sums.cut_and_find.Needs as need
 

@@ -3,9 +3,9 @@ use Prim.Native.Nat.{ℕ, _+_, _*_, _≤_}
 use native.Mathlib.Omega.{arith}
 use lib.ListN.{length}
 use Rattle.fitting.specs.Marks.{silent-limit}
-use Rattle.corrector.specs.Shown.{shows}
-use Rattle.corrector.specs.Rooms.{Bench}
-use Rattle.corrector.specs.Attempts.{Suited, Answered}
+use Rattle.attempts.specs.Shown.{shows}
+use Rattle.attempts.specs.Rooms.{Bench}
+use Rattle.attempts.specs.Attempts.{Suited, Answered}
 use Rattle.corrector.proofs.Preparing.{prepared, noted}
 use Rattle.corrector.proofs.sums.read_and_find.Needs as need
 
