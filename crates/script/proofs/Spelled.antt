@@ -1,17 +1,16 @@
 -- A command's letter says how many bytes it takes, so that a script is cut in one way only. Assumes nothing.
 use mathlib.Core.Path.{_≡_, refl, sym, _∙_, ap, subst}
-use mathlib.Core.Logic.{_⊎_, inl, inr}
-use mathlib.Core.List.{List, [], _∷_, _++_}
-use Prim.Native.Nat.{ℕ, _+_, _<_, _≤_}
+use mathlib.Core.Logic.{inl, inr}
+use mathlib.Core.List.{List, _++_}
+use Prim.Native.Nat.{ℕ, _+_, _<_}
 use native.Mathlib.Omega.{arith}
 use lib.ListN.{length, getD, take, drop, length-append}
 use denote.Ref.{now}
 use Rattle.std.proofs.shelf.Lists.{drop-at, take-at}
-use Rattle.refusal.specs.declared.Refusal.{Refusal}
 use Rattle.script.specs.declared.grammar.Parsed.{Parsed}
 use Rattle.script.specs.declared.grammar.Command.{Command}
 use Rattle.script.specs.declared.grammar.Command.the-variants.{Store, Read, Mend, Copy, Write, Doubt, Gone}
-use Rattle.script.specs.Grammar.{Fails, Parses, Sized, operandBytes, spelling, width}
+use Rattle.script.specs.Grammar.{Parses, Sized, operandBytes, spelling, width}
 use Rattle.script.specs.Statements.{Read-one-way, Refused-rightly}
 
 spelled-width : (c : Command) (size : ℕ) (rest : List ℕ) → Sized size c → length (spelling c) ≡ width size (spelling c ++ rest)

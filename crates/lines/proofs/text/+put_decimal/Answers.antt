@@ -1,10 +1,6 @@
-use mathlib.Core.Path.{_≡_, sym}
-use mathlib.Core.List.{[], _∷_, _++_}
-use Prim.Native.Nat.{_+_, _/_, _%_, _^_, _≤_, _<_}
+use mathlib.Core.Path.{sym}
 use native.Mathlib.Omega.{arith}
 use borrow.Author.Needs.{needs}
-use lib.ListN.{length}
-use Rattle.std.specs.Written.{decimal}
 use Rattle.std.proofs.shelf.Decimals.{decimal-digit, decimal-some, decimal-step}
 use Rattle.lines.proofs.Figures.{decimal-front}
 use Rattle.lines.proofs.Laying.{puts-as, puts-more}

@@ -1,5 +1,3 @@
-use mathlib.Core.List.{[], _∷_}
-use Prim.Native.Nat.{_+_, _≤_, _<_}
 use native.Mathlib.Omega.{arith}
 use Rattle.lines.proofs.Figures.{decimal-most, decimal-short}
 use Rattle.lines.proofs.Laying.{puts-more}
