@@ -1,0 +1,4 @@
+pub mod Counting
+pub mod Strips
+pub mod Naming
+pub mod Deciding
