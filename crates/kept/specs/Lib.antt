@@ -1,0 +1,6 @@
+pub mod Shows
+pub mod Code
+pub mod CodeOf
+pub mod Calls
+pub mod History
+pub mod Statements
