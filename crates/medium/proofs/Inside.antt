@@ -9,10 +9,14 @@ use native.Mathlib.Omega.{arith}
 use lib.ListN.{length, getD}
 use lib.Dec.{ltb}
 use Rattle.std.proofs.shelf.Tests.{lt-ltb, le-ltb, ltb-true, cases-bool, both-ways}
+use Rattle.std.specs.declared.result.Result.{Result}
+use Rattle.std.specs.declared.result.Result.the-variants.{Ok, Err}
+use Rattle.refusal.specs.declared.Refusal.{Refusal}
+use Rattle.refusal.specs.declared.Refusal.the-variants.{NoSuchPlace}
 use Rattle.medium.specs.declared.medium.Look.{Look}
 use Rattle.medium.specs.declared.medium.Look.the-variants.{Gone}
 use Rattle.medium.specs.Limits.{Suited, Limits}
-use Rattle.medium.specs.Meaning.{Meaning, Square, doubtful, clear, lookOn, lookAt}
+use Rattle.medium.specs.Meaning.{Meaning, Square, doubtful, clear, lookOn, lookAt, lookOf}
 use Rattle.medium.specs.Within.{Reading, bounded, goneWithin, squareWithin, within}
 use Rattle.medium.specs.Write.{Written}
 
@@ -56,6 +60,20 @@ module _ (fs n m l : ℕ) where
       let q = bounded l (v .square f s k) in
       cond-else g Gone (lookOn (squareWithin fs n m l v f s k)) (lookOn q) (λ e. ap (λ b. lookOn (cond b doubtful (cond (ltb k m) q doubtful))) e ∙ ap (λ b. lookOn (cond b q doubtful)) (lt-ltb k m hk))
       ∙ ap (λ b. cond b Gone (lookOn q)) (gone-there v f s hf hs)
+
+  -- what looking answers at a place that there is
+  pub look-answers : (v : Reading) (f s k : ℕ) → f < fs → s < n → k < m → lookOf (within fs n m l v) f s k ≡ Ok (cond (v .gone f s) Gone (lookOn (bounded l (v .square f s k))))
+  look-answers v f s k hf hs hk =
+      let none : Result Look Refusal = Err NoSuchPlace in
+      let a : Result Look Refusal = Ok (lookAt (within fs n m l v) f s k) in
+      ap (λ b. cond b (cond (ltb s n) (cond (ltb k m) a none) none) none) (lt-ltb f fs hf)
+      ∙ ap (λ b. cond b (cond (ltb k m) a none) none) (lt-ltb s n hs)
+      ∙ ap (λ b. cond b a none) (lt-ltb k m hk)
+      ∙ ap (λ x. Ok x) (look-there v f s k hf hs hk)
+
+  -- whether a frame that there is is open
+  pub open-there : (v : Reading) (f : ℕ) → f < fs → within fs n m l v .unlocked f ≡ v .unlocked f
+  open-there v f hf = ap (λ b. cond b (v .unlocked f) false) (lt-ltb f fs hf)
 
   pub within-limits : (v : Reading) → Suited fs n m → 1 ≤ l → l ≤ 256 → Limits (within fs n m l v)
   within-limits v fit least most = record {

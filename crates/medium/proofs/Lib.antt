@@ -1,3 +1,5 @@
-pub mod Shown
-pub mod Places
+pub mod Filling
 pub mod Inside
+pub mod Places
+pub mod Shown
+pub mod Writing

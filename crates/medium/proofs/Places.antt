@@ -2,9 +2,10 @@
 use mathlib.Core.Path.{_≡_, refl, sym, ap, subst, _∙_}
 use mathlib.Core.Logic.{_≢_, _⊎_, inl, inr, ⊎-elim}
 use Prim.Native.Nat.{ℕ, zero, suc, _+_, _*_, _<_, _≤_}
-use native.Mathlib.Nat.{mul-comm, suc-mul, mul-suc, zero-mul, mul-zero, mul-le-mul-right}
+use native.Mathlib.Nat.{mul-comm, suc-mul, mul-suc, zero-mul, mul-zero, mul-le-mul-right, mul-le-mul}
 use native.Mathlib.Omega.{arith}
 use Rattle.std.proofs.shelf.Tests.{cases-order}
+use Rattle.medium.specs.Limits.{Suited}
 
 -- a row before the row b ends where b starts, or before
 pub row-le : (a b w : ℕ) → a < b → a * w + w ≤ b * w
@@ -18,6 +19,16 @@ some-each (suc n) (suc m) h =
     let a = suc-mul n (suc m) in
     let b = mul-suc n m in
     (omega arith, omega arith, omega arith, omega arith)
+
+-- a memory of strips of at most 511 bytes has fewer than 2^29
+pub few-strips : (fs n m : ℕ) → Suited fs n m → fs * n ≤ 1044480
+few-strips fs n m h =
+    let e = some-each n m (h .2) in
+    let b : n ≤ 255 = omega arith in
+    mul-le-mul (h .1) b
+
+pub few-bytes : (fs n m w : ℕ) → Suited fs n m → w ≤ 511 → fs * n * w ≤ 533729280
+few-bytes fs n m w h l = mul-le-mul (few-strips fs n m h) l
 
 -- Strips of w places each follow one another through all frames, n to a frame: strip s of frame f starts at place (f * n + s) * w.
 module _ (fs n w : ℕ) where

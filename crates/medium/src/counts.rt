@@ -1,8 +1,10 @@
 // The counts of a medium, within the limits.
 ghost use mathlib.Core.Path.{_≡_};
+ghost use Prim.Native.Nat.{_+_, _*_, _<_, _≤_};
 ghost use Rattle.std.specs.Results.{Cases};
 ghost use Rattle.refusal.specs.declared.Refusal.the-variants.{Unsuited};
 ghost use Rattle.medium.specs.Limits.{Suited};
+ghost use Rattle.medium.specs.Places.{sizeOf, stripAt};
 use refusal::Refusal;
 
 /// How many frames a medium has, strips in a frame, squares in a strip. A value of this type keeps the limits.
@@ -34,19 +36,47 @@ impl Counts {
 
     pub fn frames(&self) -> usize
         ensures value { λ r. ⌜ r ≡ now (self .entry) .frames ⌝ }
+        ensures below { λ r. ⌜ 1 ≤ r ⌝ ∗ ⌜ r ≤ 4096 ⌝ }
     {
         self.frames
     }
 
     pub fn strips(&self) -> usize
         ensures value { λ r. ⌜ r ≡ now (self .entry) .strips ⌝ }
+        ensures below { λ r. ⌜ 1 ≤ r ⌝ ∗ ⌜ r ≤ 255 ⌝ }
     {
         self.strips
     }
 
     pub fn squares(&self) -> usize
         ensures value { λ r. ⌜ r ≡ now (self .entry) .squares ⌝ }
+        ensures below { λ r. ⌜ 1 ≤ r ⌝ ∗ ⌜ r ≤ 255 ⌝ }
     {
         self.squares
+    }
+
+    /// How many squares a frame has.
+    pub fn frame_squares(&self) -> usize
+        ensures value { λ r. ⌜ r ≡ now (self .entry) .strips * now (self .entry) .squares ⌝ }
+        ensures below { λ r. ⌜ 1 ≤ r ⌝ ∗ ⌜ r ≤ 255 ⌝ }
+    {
+        self.strips * self.squares
+    }
+
+    /// How many bytes a memory has in which each strip takes `width` bytes. Asks for a width that a strip can have.
+    pub fn size(&self, width: usize) -> usize
+        requires { ⌜ width ≤ 511 ⌝ }
+        ensures value { λ r. ⌜ r ≡ sizeOf (now (self .entry) .frames) (now (self .entry) .strips) width ⌝ }
+    {
+        self.frames * self.strips * width
+    }
+
+    /// Where a strip starts in such a memory. Asks for a strip that there is.
+    pub fn strip_at(&self, frame: usize, strip: usize, width: usize) -> usize
+        requires { ⌜ frame < now self .frames ⌝ ∗ ⌜ strip < now self .strips ⌝ ∗ ⌜ width ≤ 511 ⌝ }
+        ensures value { λ r. ⌜ r ≡ stripAt (now (self .entry) .strips) width frame strip ⌝ }
+        ensures below { λ r. ⌜ r + width ≤ sizeOf (now (self .entry) .frames) (now (self .entry) .strips) width ⌝ }
+    {
+        (frame * self.strips + strip) * width
     }
 }

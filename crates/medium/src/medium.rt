@@ -20,8 +20,6 @@ pub enum Look {
 pub trait Medium {
     ghost shows: { Self → Meaning };
 
-    law limits: { (x : Self) → Limits (shows x) };
-
     fn frames(&self) -> usize
         ensures value { λ r. ⌜ r ≡ shows (now (self .entry)) .frames ⌝ };
 
@@ -31,8 +29,11 @@ pub trait Medium {
     fn squares(&self) -> usize
         ensures value { λ r. ⌜ r ≡ shows (now (self .entry)) .squares ⌝ };
 
+    /// How many codes a square can show. The limits of the whole meaning are promised here, in a clause: a `law` of the
+    /// trait would say the same, but the checker makes no proof of a law for a type that borrows its memory.
     fn levels(&self) -> usize
-        ensures value { λ r. ⌜ r ≡ shows (now (self .entry)) .levels ⌝ };
+        ensures value { λ r. ⌜ r ≡ shows (now (self .entry)) .levels ⌝ }
+        ensures below { λ _. ⌜ Limits (shows (now (self .entry))) ⌝ };
 
     /// How a square looks; refused with 3 if a number is too large.
     fn look(&mut self, frame: usize, strip: usize, square: usize) -> Result<Look, Refusal>

@@ -1,0 +1,5 @@
+pub mod Alphabet
+pub mod Every
+pub mod Layout
+pub mod Make
+pub mod Stored

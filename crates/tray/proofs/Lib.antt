@@ -1,0 +1,3 @@
+pub mod Shows
+pub mod Strips
+pub mod Made

@@ -1,0 +1,13 @@
+use mathlib.Core.Path.{_≡_}
+use Prim.Native.Nat.{ℕ, _<_, _≤_, _+_, _*_}
+use lib.ListN.{getD}
+use Rattle.tray.specs.Layout.{width}
+use Rattle.tray.proofs.store.store_strip.Given as given
+
+abbrev pub Inv-loop-k : given.InvT-loop-k
+Inv-loop-k l =
+    (getD (l .bytes) (l .at) 0 ≡ 0)
+    × ((j : ℕ) → j < l .k → getD (l .bytes) (l .at + 1 + j) 0 ≡ getD (l .codes) (l .from + j) 0)
+    × ((j : ℕ) → j < l .k → getD (l .bytes) (l .at + 1 + l .m + j) 0 ≡ 0)
+    × ((i : ℕ) → i < l .at → getD (l .bytes) i 0 ≡ getD (l .entry .bytes) i 0)
+    × ((i : ℕ) → l .at + width (l .m) ≤ i → getD (l .bytes) i 0 ≡ getD (l .entry .bytes) i 0)
