@@ -18,7 +18,7 @@ line-kept m codes at from lo hi xs ys h b s = record {
 
 -- one strip more; the numbers of its place and width by what they are equal to
 pub lines-more : (n m f s : ℕ) (codes xs ys zs : List ℕ) (at' m' : ℕ) → at' ≡ stripAt n (width m) f s → m' ≡ m → s < n → Filled n (width m) f s (lineOf n m f codes) xs ys
-  → Line zs at' m' codes (s * m') → Beside ys zs at' (at' + width m') → Filled n (width m) f (s + 1) (lineOf n m f codes) xs zs
+    → Line zs at' m' codes (s * m') → Beside ys zs at' (at' + width m') → Filled n (width m) f (s + 1) (lineOf n m f codes) xs zs
 lines-more n m f s codes xs ys zs at' m' ea em less old line put =
     filled-more n (width m) f (lineOf n m f codes) s xs ys zs
     (λ t lo hi h b. line-kept m codes (stripAt n (width m) f t) (t * m) lo hi ys zs h b)

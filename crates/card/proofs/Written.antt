@@ -9,6 +9,7 @@ use lib.ListN.{length, getD}
 use lib.Dec.{eqb}
 use Rattle.std.proofs.shelf.Tests.{lt-ltb, eq-eqb}
 use Rattle.refusal.specs.Codes.{Below}
+use Rattle.medium.specs.Counts.{frameCount, stripCount, squareCount}
 use Rattle.medium.specs.declared.counts.Counts.{Counts}
 use Rattle.medium.specs.Meaning.{doubtful, clear}
 use Rattle.medium.specs.Places.{sizeOf, stripAt}
@@ -16,6 +17,7 @@ use Rattle.medium.specs.Within.{bounded}
 use Rattle.medium.specs.Write.{Written}
 use Rattle.medium.proofs.Places.{some-each, row-le}
 use Rattle.medium.proofs.Filling.{beside-apart}
+use Rattle.medium.proofs.Counted.{suitedOf}
 use Rattle.medium.proofs.Inside.{within-written}
 use Rattle.card.specs.Alphabet.{valueOf, letter, isLetter}
 use Rattle.card.specs.Every.{every}
@@ -24,15 +26,15 @@ use Rattle.card.specs.Stored.{Stored}
 use Rattle.card.proofs.Letters.{letter-value, letter-is}
 use Rattle.card.proofs.Tested.{every-fails, every-same}
 
-pub card-written : (c : Counts) (xs ys codes : List ℕ) (f : ℕ) → f < c .frames → length xs ≡ sizeOf (c .frames) (c .strips) (width (c .squares)) → length codes ≡ c .strips * c .squares → Below 37 codes
-  → Stored (c .strips) (c .squares) f codes xs ys → Written (cardShows c xs) f codes (cardShows c ys)
+pub card-written : (c : Counts) (xs ys codes : List ℕ) (f : ℕ) → f < frameCount c → length xs ≡ sizeOf (frameCount c) (stripCount c) (width (squareCount c)) → length codes ≡ stripCount c * squareCount c → Below 37 codes
+    → Stored (stripCount c) (squareCount c) f codes xs ys → Written (cardShows c xs) f codes (cardShows c ys)
 card-written c xs ys codes f there long many below put =
-    let fs = c .frames in
-    let n = c .strips in
-    let m = c .squares in
+    let fs = frameCount c in
+    let n = stripCount c in
+    let m = squareCount c in
     let w = width m in
     let long' = put .beside .long in
-    let some : 1 ≤ m = some-each n m (c .suited .2) .1 in
+    let some : 1 ≤ m = some-each n m (suitedOf c .2) .1 in
     let fit : eqb (length ys) (sizeOf fs n w) ≡ true = eq-eqb (length ys) (sizeOf fs n w) (long' ∙ long) in
     let code : ℕ → ℕ → ℕ = λ s k. getD codes (s * m + k) 0 in
     let small : (s k : ℕ) → s < n → k < m → code s k < 37 = λ s k hs hk. (let r = row-le s n m hs in below (s * m + k) (omega arith)) in

@@ -15,6 +15,7 @@ use lib.ListN.{length, getD}
 use lib.Dec.{eqb}
 use Rattle.std.specs.declared.option.Option.{Option}
 use Rattle.std.specs.declared.option.Option.the-variants.{Some, None}
+use Rattle.medium.specs.Counts.{frameCount, stripCount, squareCount}
 use Rattle.medium.specs.declared.counts.Counts.{Counts}
 use Rattle.medium.specs.Meaning.{Meaning, Square, doubtful, clear}
 use Rattle.medium.specs.Places.{sizeOf, stripAt}
@@ -49,4 +50,4 @@ cardReads fs n m xs = record {
 }
 
 abbrev pub cardShows : Counts → List ℕ → Meaning
-cardShows c xs = within (c .frames) (c .strips) (c .squares) 37 (cardReads (c .frames) (c .strips) (c .squares) xs)
+cardShows c xs = within (frameCount c) (stripCount c) (squareCount c) 37 (cardReads (frameCount c) (stripCount c) (squareCount c) xs)

@@ -2,6 +2,7 @@
 ghost use mathlib.Core.Path.{_≡_};
 ghost use denote.Ref.{now, name};
 ghost use Rattle.std.specs.Results.{Cases};
+ghost use Rattle.medium.specs.Counts.{stripCount, squareCount};
 ghost use Rattle.medium.specs.Meaning.{lookOf, openOf};
 ghost use Rattle.medium.specs.Write.{Writes};
 ghost use Rattle.card.specs.Layout.{cardShows};
@@ -23,6 +24,7 @@ pub struct Card<'a> {
 }
 
 impl<'a> Card<'a> {
+    // Through a shared borrow, after which the bytes are known to be the same.
     fn seen(&self, frame: usize, strip: usize, square: usize) -> Result<Look, Refusal>
         ensures value { λ r. ⌜ r ≡ lookOf (cardShows (now (self .entry) .counts) (now (now (self .entry) .bytes))) frame strip square ⌝ }
     {
@@ -75,7 +77,7 @@ pub impl<'a> Medium for Card<'a> as CardMedium {
 
     fn write(&mut self, frame: usize, codes: &[u8]) -> Result<(), Refusal>
         ensures frame { λ r. ⌜ Writes (cardShows (now (self .entry) .counts) (now (now (self .entry) .bytes))) frame (now (codes .entry)) r (cardShows (now (self .exit) .counts) (now (now (self .exit) .bytes))) ⌝ }
-        ensures left { λ r. ⌜ Cases r (λ _. Stored (now (self .entry) .counts .strips) (now (self .entry) .counts .squares) frame (now (codes .entry)) (now (now (self .entry) .bytes)) (now (now (self .exit) .bytes))) (λ _. now (now (self .exit) .bytes) ≡ now (now (self .entry) .bytes)) ⌝ ∗ ⌜ name (now (self .exit) .bytes) ≡ name (now (self .entry) .bytes) ⌝ }
+        ensures left { λ r. ⌜ Cases r (λ _. Stored (stripCount (now (self .entry) .counts)) (squareCount (now (self .entry) .counts)) frame (now (codes .entry)) (now (now (self .entry) .bytes)) (now (now (self .exit) .bytes))) (λ _. now (now (self .exit) .bytes) ≡ now (now (self .entry) .bytes)) ⌝ ∗ ⌜ name (now (self .exit) .bytes) ≡ name (now (self .entry) .bytes) ⌝ }
         ensures counts { λ _. ⌜ now (self .exit) .counts ≡ now (self .entry) .counts ⌝ }
     {
         let counts = self.counts;

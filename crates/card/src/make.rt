@@ -5,6 +5,7 @@
 ghost use mathlib.Core.Path.{_≡_};
 ghost use Prim.Native.Nat.{ℕ, _<_};
 ghost use lib.ListN.{length, getD};
+ghost use Rattle.medium.specs.Counts.{frameCount, stripCount, squareCount};
 ghost use Rattle.medium.specs.Memory.{Tests};
 ghost use Rattle.medium.specs.Places.{sizeOf};
 ghost use Rattle.card.specs.Layout.{width as widthOf, cardShows};
@@ -16,7 +17,7 @@ use refusal::Refusal;
 
 // The byte of a fresh card at a place.
 fn fresh_byte(counts: Counts, i: usize) -> u8
-    ensures value { λ r. ⌜ r ≡ freshByte (counts .squares) i ⌝ }
+    ensures value { λ r. ⌜ r ≡ freshByte (squareCount counts) i ⌝ }
 {
     if i % width(counts) == counts.squares() {
         b'\n'
@@ -27,7 +28,7 @@ fn fresh_byte(counts: Counts, i: usize) -> u8
 
 // Makes the bytes those of a fresh card.
 fn fill(bytes: &mut [u8], counts: Counts)
-    ensures left { λ _. ⌜ ((i : ℕ) → i < length (now (bytes .exit)) → getD (now (bytes .exit)) i 0 ≡ freshByte (counts .squares) i) ⌝ }
+    ensures left { λ _. ⌜ ((i : ℕ) → i < length (now (bytes .exit)) → getD (now (bytes .exit)) i 0 ≡ freshByte (squareCount counts) i) ⌝ }
 {
     for i in 0..bytes.len() {
         bytes[i] = fresh_byte(counts, i);
@@ -53,14 +54,14 @@ impl<'a> Card<'a> {
 
     /// How many bytes a card takes.
     pub fn size(counts: Counts) -> usize
-        ensures value { λ r. ⌜ r ≡ sizeOf (counts .frames) (counts .strips) (widthOf (counts .squares)) ⌝ }
+        ensures value { λ r. ⌜ r ≡ sizeOf (frameCount counts) (stripCount counts) (widthOf (squareCount counts)) ⌝ }
     {
         counts.size(width(counts))
     }
 
     /// A card over a memory as it stands.
     pub fn over(bytes: &'a mut [u8], counts: Counts) -> Card<'a>
-        ensures value { λ r. ⌜ (length (now (bytes .entry)) ≡ sizeOf (counts .frames) (counts .strips) (widthOf (counts .squares)) → Laid counts (now (bytes .entry)) (cardShows (r .counts) (now (r .bytes)))) ⌝ }
+        ensures value { λ r. ⌜ (length (now (bytes .entry)) ≡ sizeOf (frameCount counts) (stripCount counts) (widthOf (squareCount counts)) → Laid counts (now (bytes .entry)) (cardShows (r .counts) (now (r .bytes)))) ⌝ }
         ensures left { λ r. ⌜ now (r .bytes) ≡ now (bytes .entry) ⌝ }
         ensures counts { λ r. ⌜ r .counts ≡ counts ⌝ }
     {
@@ -69,11 +70,11 @@ impl<'a> Card<'a> {
 
     /// A fresh card: only spaces and its newlines.
     pub fn fresh(bytes: &'a mut [u8], counts: Counts) -> Card<'a>
-        ensures value { λ r. ⌜ (length (now (bytes .entry)) ≡ sizeOf (counts .frames) (counts .strips) (widthOf (counts .squares)) → All-open (cardShows (r .counts) (now (r .bytes)))) ⌝ }
-        ensures left { λ r. ⌜ length (now (r .bytes)) ≡ length (now (bytes .entry)) ⌝ ∗ ⌜ ((i : ℕ) → i < length (now (r .bytes)) → getD (now (r .bytes)) i 0 ≡ freshByte (counts .squares) i) ⌝ }
+        ensures value { λ r. ⌜ (length (now (bytes .entry)) ≡ sizeOf (frameCount counts) (stripCount counts) (widthOf (squareCount counts)) → All-open (cardShows (r .counts) (now (r .bytes)))) ⌝ }
+        ensures left { λ r. ⌜ length (now (r .bytes)) ≡ length (now (bytes .entry)) ⌝ ∗ ⌜ ((i : ℕ) → i < length (now (r .bytes)) → getD (now (r .bytes)) i 0 ≡ freshByte (squareCount counts) i) ⌝ }
         ensures counts { λ r. ⌜ r .counts ≡ counts ⌝ }
     {
         fill(bytes, counts);
-        Card { bytes, counts }
+        Card { counts, bytes }
     }
 }

@@ -4,6 +4,7 @@ ghost use mathlib.Core.Bool.{true, false, cond};
 ghost use Prim.Native.Nat.{ℕ, _+_, _*_, _<_, _≤_};
 ghost use lib.Dec.{eqb};
 ghost use lib.ListN.{length, getD};
+ghost use Rattle.medium.specs.Counts.{frameCount, stripCount, squareCount};
 ghost use Rattle.medium.specs.declared.medium.Look.the-variants.{Gone};
 ghost use Rattle.medium.specs.Meaning.{lookOn, lookOf, openOf};
 ghost use Rattle.medium.specs.Places.{sizeOf};
@@ -17,7 +18,7 @@ use refusal::Refusal;
 
 // How many bytes a strip has.
 pub fn width(counts: Counts) -> usize
-    ensures value { λ r. ⌜ r ≡ widthOf (counts .squares) ⌝ }
+    ensures value { λ r. ⌜ r ≡ widthOf (squareCount counts) ⌝ }
     ensures below { λ r. ⌜ r ≤ 511 ⌝ }
 {
     counts.squares() + 1
@@ -25,7 +26,7 @@ pub fn width(counts: Counts) -> usize
 
 // Whether a memory has the length of a card.
 pub fn suits(bytes: &[u8], counts: Counts) -> bool
-    ensures value { λ r. ⌜ r ≡ eqb (length (now (bytes .entry))) (sizeOf (counts .frames) (counts .strips) (widthOf (counts .squares))) ⌝ }
+    ensures value { λ r. ⌜ r ≡ eqb (length (now (bytes .entry))) (sizeOf (frameCount counts) (stripCount counts) (widthOf (squareCount counts))) ⌝ }
 {
     bytes.len() == counts.size(width(counts))
 }
@@ -58,8 +59,8 @@ fn strip_blank(bytes: &[u8], at: usize, m: usize) -> bool
 
 // Whether all characters of a frame are spaces. Asks for a frame that there is, in a memory of the right length.
 fn frame_blank(bytes: &[u8], counts: Counts, frame: usize) -> bool
-    requires { ⌜ frame < counts .frames ⌝ ∗ ⌜ length (now bytes) ≡ sizeOf (counts .frames) (counts .strips) (widthOf (counts .squares)) ⌝ }
-    ensures value { λ r. ⌜ r ≡ frameBlank (counts .strips) (counts .squares) (now (bytes .entry)) frame ⌝ }
+    requires { ⌜ frame < frameCount counts ⌝ ∗ ⌜ length (now bytes) ≡ sizeOf (frameCount counts) (stripCount counts) (widthOf (squareCount counts)) ⌝ }
+    ensures value { λ r. ⌜ r ≡ frameBlank (stripCount counts) (squareCount counts) (now (bytes .entry)) frame ⌝ }
 {
     for s in 0..counts.strips() {
         let at = counts.strip_at(frame, s, width(counts));
@@ -106,8 +107,8 @@ pub fn look_at(
 
 // Whether a frame is there to be written on: its memory a card's, and all its characters spaces. Asks for a frame that there is.
 pub fn is_blank(bytes: &[u8], counts: Counts, frame: usize) -> bool
-    requires { ⌜ frame < counts .frames ⌝ }
-    ensures value { λ r. ⌜ r ≡ cond (eqb (length (now (bytes .entry))) (sizeOf (counts .frames) (counts .strips) (widthOf (counts .squares)))) (frameBlank (counts .strips) (counts .squares) (now (bytes .entry)) frame) false ⌝ }
+    requires { ⌜ frame < frameCount counts ⌝ }
+    ensures value { λ r. ⌜ r ≡ cond (eqb (length (now (bytes .entry))) (sizeOf (frameCount counts) (stripCount counts) (widthOf (squareCount counts)))) (frameBlank (stripCount counts) (squareCount counts) (now (bytes .entry)) frame) false ⌝ }
 {
     suits(bytes, counts) && frame_blank(bytes, counts, frame)
 }

@@ -5,6 +5,7 @@ ghost use Prim.Native.Nat.{ℕ, _+_, _*_, _<_, _≤_};
 ghost use lib.ListN.{length, getD};
 ghost use Rattle.std.specs.Results.{Cases};
 ghost use Rattle.refusal.specs.Codes.{Below};
+ghost use Rattle.medium.specs.Counts.{stripCount, squareCount};
 ghost use Rattle.medium.specs.Memory.{Room, Beside};
 ghost use Rattle.medium.specs.Write.{Writes};
 ghost use Rattle.card.specs.Layout.{width as widthOf, cardShows};
@@ -41,8 +42,8 @@ fn store_strip(bytes: &mut [u8], at: usize, m: usize, codes: &[u8], from: usize)
 
 // Writes the codes of a frame. Asks for a frame that there is, in a memory of the right length, and for all its codes.
 fn store_frame(bytes: &mut [u8], counts: Counts, frame: usize, codes: &[u8])
-    requires { ⌜ Room counts (widthOf (counts .squares)) frame (now codes) (now bytes) ⌝ ∗ ⌜ Below 37 (now codes) ⌝ }
-    ensures frame { λ _. ⌜ Stored (counts .strips) (counts .squares) frame (now (codes .entry)) (now (bytes .entry)) (now (bytes .exit)) ⌝ }
+    requires { ⌜ Room counts (widthOf (squareCount counts)) frame (now codes) (now bytes) ⌝ ∗ ⌜ Below 37 (now codes) ⌝ }
+    ensures frame { λ _. ⌜ Stored (stripCount counts) (squareCount counts) frame (now (codes .entry)) (now (bytes .entry)) (now (bytes .exit)) ⌝ }
 {
     let m = counts.squares();
     for s in 0..counts.strips() {
@@ -52,14 +53,9 @@ fn store_frame(bytes: &mut [u8], counts: Counts, frame: usize, codes: &[u8])
 }
 
 // Writes the codes of a frame of a card over these bytes.
-pub fn write_at(
-    bytes: &mut [u8],
-    counts: Counts,
-    frame: usize,
-    codes: &[u8],
-) -> Result<(), Refusal>
+pub fn write_at(bytes: &mut [u8], counts: Counts, frame: usize, codes: &[u8]) -> Result<(), Refusal>
     ensures frame { λ r. ⌜ Writes (cardShows counts (now (bytes .entry))) frame (now (codes .entry)) r (cardShows counts (now (bytes .exit))) ⌝ }
-    ensures left { λ r. ⌜ Cases r (λ _. Stored (counts .strips) (counts .squares) frame (now (codes .entry)) (now (bytes .entry)) (now (bytes .exit))) (λ _. now (bytes .exit) ≡ now (bytes .entry)) ⌝ }
+    ensures left { λ r. ⌜ Cases r (λ _. Stored (stripCount counts) (squareCount counts) frame (now (codes .entry)) (now (bytes .entry)) (now (bytes .exit))) (λ _. now (bytes .exit) ≡ now (bytes .entry)) ⌝ }
 {
     if frame >= counts.frames() {
         return Err(Refusal::NoSuchPlace);

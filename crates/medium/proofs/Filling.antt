@@ -21,7 +21,7 @@ module _ (n w f : ℕ) (P : ℕ → List ℕ → Type 0) where
 
   -- one strip more, where a strip stays what it is while bytes above it change
   pub filled-more : (s : ℕ) (xs ys zs : List ℕ) → ((t lo hi : ℕ) → stripAt n w f t + w ≤ lo → Beside ys zs lo hi → P t ys → P t zs)
-    → s < n → Filled n w f s P xs ys → P s zs → Beside ys zs (stripAt n w f s) (stripAt n w f s + w) → Filled n w f (s + 1) P xs zs
+      → s < n → Filled n w f s P xs ys → P s zs → Beside ys zs (stripAt n w f s) (stripAt n w f s + w) → Filled n w f (s + 1) P xs zs
   filled-more s xs ys zs kept less old new put =
       let at = stripAt n w f s in
       let was = old .beside in

@@ -1,3 +1,4 @@
+pub mod Counted
 pub mod Filling
 pub mod Inside
 pub mod Places

@@ -13,6 +13,7 @@ use Rattle.std.specs.Results.{Cases}
 use Rattle.std.specs.declared.result.Result.{Result}
 use Rattle.refusal.specs.declared.Refusal.{Refusal}
 use Rattle.refusal.specs.declared.Refusal.the-variants.{Unsuited}
+use Rattle.medium.specs.Counts.{frameCount, stripCount, squareCount}
 use Rattle.medium.specs.declared.counts.Counts.{Counts}
 use Rattle.medium.specs.Limits.{Suited}
 use Rattle.medium.specs.Places.{sizeOf}
@@ -22,12 +23,12 @@ abbrev pub Passes : ℕ → ℕ → ℕ → ℕ → ℕ → Type 0
 Passes fs n m w long = Suited fs n m × (long ≡ sizeOf fs n w)
 
 abbrev pub Tests : ℕ → ℕ → ℕ → ℕ → ℕ → Result Counts Refusal → Type 0
-Tests fs n m w long r = Cases r (λ c. (c .frames ≡ fs) × (c .strips ≡ n) × (c .squares ≡ m) × (long ≡ sizeOf fs n w)) (λ e. (e ≡ Unsuited) × (Passes fs n m w long → ⊥))
+Tests fs n m w long r = Cases r (λ c. (frameCount c ≡ fs) × (stripCount c ≡ n) × (squareCount c ≡ m) × (long ≡ sizeOf fs n w)) (λ e. (e ≡ Unsuited) × (Passes fs n m w long → ⊥))
 
 pub record Room (c : Counts) (w f : ℕ) (codes xs : List ℕ) : Type 0 where
-  pub there : f < c .frames
-  pub long : length xs ≡ sizeOf (c .frames) (c .strips) w
-  pub codes-long : length codes ≡ c .strips * c .squares
+  pub there : f < frameCount c
+  pub long : length xs ≡ sizeOf (frameCount c) (stripCount c) w
+  pub codes-long : length codes ≡ stripCount c * squareCount c
 
 pub record Beside (xs ys : List ℕ) (lo hi : ℕ) : Type 0 where
   pub long : length ys ≡ length xs

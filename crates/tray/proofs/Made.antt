@@ -8,6 +8,7 @@ use native.Mathlib.Nat.{mul-mod-left}
 use lib.ListN.{length, getD}
 use lib.Dec.{eqb, ltb}
 use Rattle.std.proofs.shelf.Tests.{lt-ltb, eq-eqb}
+use Rattle.medium.specs.Counts.{frameCount, stripCount, squareCount}
 use Rattle.medium.specs.declared.counts.Counts.{Counts}
 use Rattle.medium.specs.Meaning.{Square, doubtful, clear}
 use Rattle.medium.specs.Places.{sizeOf, stripAt}
@@ -24,17 +25,17 @@ bounded-byte code doubt h = by (eqb doubt 0)
     by true = ap (λ t. cond t (clear code) doubtful) (lt-ltb code 256 h)
     by false = refl
 
-module _ (c : Counts) (xs : List ℕ) (long : length xs ≡ sizeOf (c .frames) (c .strips) (width (c .squares))) where
-  fit : eqb (length xs) (sizeOf (c .frames) (c .strips) (width (c .squares))) ≡ true
-  fit = eq-eqb (length xs) (sizeOf (c .frames) (c .strips) (width (c .squares))) long
+module _ (c : Counts) (xs : List ℕ) (long : length xs ≡ sizeOf (frameCount c) (stripCount c) (width (squareCount c))) where
+  fit : eqb (length xs) (sizeOf (frameCount c) (stripCount c) (width (squareCount c))) ≡ true
+  fit = eq-eqb (length xs) (sizeOf (frameCount c) (stripCount c) (width (squareCount c))) long
 
-  opens : (f : ℕ) → f < c .frames → trayShows c xs .unlocked f ≡ true
-  opens f h = open-there (c .frames) (c .strips) (c .squares) 256 (trayReads (c .frames) (c .strips) (c .squares) xs) f h ∙ fit
+  opens : (f : ℕ) → f < frameCount c → trayShows c xs .unlocked f ≡ true
+  opens f h = open-there (frameCount c) (stripCount c) (squareCount c) 256 (trayReads (frameCount c) (stripCount c) (squareCount c) xs) f h ∙ fit
 
-  gones : (f s : ℕ) → f < c .frames → s < c .strips → trayShows c xs .gone f s ≡ not (eqb (getD xs (stripAt (c .strips) (width (c .squares)) f s) 0) 0)
+  gones : (f s : ℕ) → f < frameCount c → s < stripCount c → trayShows c xs .gone f s ≡ not (eqb (getD xs (stripAt (stripCount c) (width (squareCount c)) f s) 0) 0)
   gones f s hf hs =
-      gone-there (c .frames) (c .strips) (c .squares) 256 (trayReads (c .frames) (c .strips) (c .squares) xs) f s hf hs
-      ∙ ap (λ b. cond b (not (eqb (getD xs (stripAt (c .strips) (width (c .squares)) f s) 0) 0)) true) fit
+      gone-there (frameCount c) (stripCount c) (squareCount c) 256 (trayReads (frameCount c) (stripCount c) (squareCount c) xs) f s hf hs
+      ∙ ap (λ b. cond b (not (eqb (getD xs (stripAt (stripCount c) (width (squareCount c)) f s) 0) 0)) true) fit
 
   pub tray-laid : Laid c xs (trayShows c xs)
   tray-laid = record {
@@ -44,11 +45,11 @@ module _ (c : Counts) (xs : List ℕ) (long : length xs ≡ sizeOf (c .frames) (
     levels = refl;
     always-open = opens;
     gone = gones;
-    square = λ f s k hf hs hk there byte. let q = squareOf (getD xs (codeAt (c .strips) (c .squares) f s k) 0) (getD xs (doubtAt (c .strips) (c .squares) f s k) 0) in ap (λ b. cond b doubtful (cond (ltb k (c .squares)) (bounded 256 q) doubtful)) there ∙ ap (λ b. cond b (bounded 256 q) doubtful) (lt-ltb k (c .squares) hk) ∙ bounded-byte (getD xs (codeAt (c .strips) (c .squares) f s k) 0) (getD xs (doubtAt (c .strips) (c .squares) f s k) 0) byte;
+    square = λ f s k hf hs hk there byte. let q = squareOf (getD xs (codeAt (stripCount c) (squareCount c) f s k) 0) (getD xs (doubtAt (stripCount c) (squareCount c) f s k) 0) in ap (λ b. cond b doubtful (cond (ltb k (squareCount c)) (bounded 256 q) doubtful)) there ∙ ap (λ b. cond b (bounded 256 q) doubtful) (lt-ltb k (squareCount c) hk) ∙ bounded-byte (getD xs (codeAt (stripCount c) (squareCount c) f s k) 0) (getD xs (doubtAt (stripCount c) (squareCount c) f s k) 0) byte;
   }
 
-  pub tray-fresh : ((i : ℕ) → i < length xs → getD xs i 0 ≡ freshByte (c .squares) i) → Fresh (trayShows c xs)
+  pub tray-fresh : ((i : ℕ) → i < length xs → getD xs i 0 ≡ freshByte (squareCount c) i) → Fresh (trayShows c xs)
   tray-fresh bytes = record {
     all-open = opens;
-    all-gone = λ f s hf hs. let w = width (c .squares) in let at = stripAt (c .strips) w f s in let fits = strip-inside (c .frames) (c .strips) w f s hf hs in gones f s hf hs ∙ ap (λ x. not (eqb x 0)) (bytes at (omega arith) ∙ ap (λ x. cond (eqb x 0) 1 0) (mul-mod-left (f * c .strips + s) w));
+    all-gone = λ f s hf hs. let w = width (squareCount c) in let at = stripAt (stripCount c) w f s in let fits = strip-inside (frameCount c) (stripCount c) w f s hf hs in gones f s hf hs ∙ ap (λ x. not (eqb x 0)) (bytes at (omega arith) ∙ ap (λ x. cond (eqb x 0) 1 0) (mul-mod-left (f * stripCount c + s) w));
   }

@@ -11,6 +11,7 @@ use Rattle.std.specs.declared.result.Result.{Result}
 use Rattle.std.specs.declared.result.Result.the-variants.{Ok, Err}
 use Rattle.std.proofs.shelf.Tests.{lt-ltb, eq-eqb}
 use Rattle.refusal.specs.Codes.{Below}
+use Rattle.medium.specs.Counts.{frameCount, stripCount, squareCount}
 use Rattle.medium.specs.declared.counts.Counts.{Counts}
 use Rattle.medium.specs.declared.medium.Look.{Look}
 use Rattle.medium.specs.declared.medium.Look.the-variants.{Gone}
@@ -21,36 +22,37 @@ use Rattle.medium.specs.Within.{Reading, bounded, within}
 use Rattle.medium.specs.Write.{Written}
 use Rattle.medium.proofs.Places.{row-le}
 use Rattle.medium.proofs.Filling.{beside-apart}
+use Rattle.medium.proofs.Counted.{suitedOf}
 use Rattle.medium.proofs.Inside.{within-limits, within-written, look-answers, open-there, Same-frame}
 use Rattle.tray.specs.Layout.{width, codeAt, doubtAt, squareOf, trayReads, trayShows}
 use Rattle.tray.specs.Stored.{Stored}
 
 pub tray-limits : (c : Counts) (xs : List ℕ) → Limits (trayShows c xs)
-tray-limits c xs = within-limits (c .frames) (c .strips) (c .squares) 256 (trayReads (c .frames) (c .strips) (c .squares) xs) (c .suited) (omega arith) (omega arith)
+tray-limits c xs = within-limits (frameCount c) (stripCount c) (squareCount c) 256 (trayReads (frameCount c) (stripCount c) (squareCount c) xs) (suitedOf c) (omega arith) (omega arith)
 
-module _ (c : Counts) (xs : List ℕ) (f s k : ℕ) (hf : f < c .frames) (hs : s < c .strips) (hk : k < c .squares) where
-  answers : lookOf (trayShows c xs) f s k ≡ Ok (cond (trayReads (c .frames) (c .strips) (c .squares) xs .gone f s) Gone (lookOn (bounded 256 (trayReads (c .frames) (c .strips) (c .squares) xs .square f s k))))
-  answers = look-answers (c .frames) (c .strips) (c .squares) 256 (trayReads (c .frames) (c .strips) (c .squares) xs) f s k hf hs hk
+module _ (c : Counts) (xs : List ℕ) (f s k : ℕ) (hf : f < frameCount c) (hs : s < stripCount c) (hk : k < squareCount c) where
+  answers : lookOf (trayShows c xs) f s k ≡ Ok (cond (trayReads (frameCount c) (stripCount c) (squareCount c) xs .gone f s) Gone (lookOn (bounded 256 (trayReads (frameCount c) (stripCount c) (squareCount c) xs .square f s k))))
+  answers = look-answers (frameCount c) (stripCount c) (squareCount c) 256 (trayReads (frameCount c) (stripCount c) (squareCount c) xs) f s k hf hs hk
 
   -- in a memory of the wrong length all is gone
-  pub look-unsuited : eqb (length xs) (sizeOf (c .frames) (c .strips) (width (c .squares))) ≡ false → lookOf (trayShows c xs) f s k ≡ Ok Gone
-  look-unsuited e = answers ∙ ap (λ b. Ok (cond (cond b (not (eqb (getD xs (stripAt (c .strips) (width (c .squares)) f s) 0) 0)) true) Gone (lookOn (bounded 256 (trayReads (c .frames) (c .strips) (c .squares) xs .square f s k))))) e
+  pub look-unsuited : eqb (length xs) (sizeOf (frameCount c) (stripCount c) (width (squareCount c))) ≡ false → lookOf (trayShows c xs) f s k ≡ Ok Gone
+  look-unsuited e = answers ∙ ap (λ b. Ok (cond (cond b (not (eqb (getD xs (stripAt (stripCount c) (width (squareCount c)) f s) 0) 0)) true) Gone (lookOn (bounded 256 (trayReads (frameCount c) (stripCount c) (squareCount c) xs .square f s k))))) e
 
   -- else as its bytes say; the numbers of the strip's place and width by what they are equal to
-  pub look-suited : eqb (length xs) (sizeOf (c .frames) (c .strips) (width (c .squares))) ≡ true → (at m : ℕ) → at ≡ stripAt (c .strips) (width (c .squares)) f s → m ≡ c .squares
-    → lookOf (trayShows c xs) f s k ≡ Ok (cond (not (eqb (getD xs at 0) 0)) Gone (lookOn (bounded 256 (squareOf (getD xs (at + 1 + k) 0) (getD xs (at + 1 + m + k) 0)))))
+  pub look-suited : eqb (length xs) (sizeOf (frameCount c) (stripCount c) (width (squareCount c))) ≡ true → (at m : ℕ) → at ≡ stripAt (stripCount c) (width (squareCount c)) f s → m ≡ squareCount c
+      → lookOf (trayShows c xs) f s k ≡ Ok (cond (not (eqb (getD xs at 0) 0)) Gone (lookOn (bounded 256 (squareOf (getD xs (at + 1 + k) 0) (getD xs (at + 1 + m + k) 0)))))
   look-suited e at m ea em =
       answers
-      ∙ ap (λ b. Ok (cond (cond b (not (eqb (getD xs (stripAt (c .strips) (width (c .squares)) f s) 0) 0)) true) Gone (lookOn (bounded 256 (trayReads (c .frames) (c .strips) (c .squares) xs .square f s k))))) e
+      ∙ ap (λ b. Ok (cond (cond b (not (eqb (getD xs (stripAt (stripCount c) (width (squareCount c)) f s) 0) 0)) true) Gone (lookOn (bounded 256 (trayReads (frameCount c) (stripCount c) (squareCount c) xs .square f s k))))) e
       ∙ sym (λ i. Ok (cond (not (eqb (getD xs (ea i) 0) 0)) Gone (lookOn (bounded 256 (squareOf (getD xs (ea i + 1 + k) 0) (getD xs (ea i + 1 + em i + k) 0))))))
 
 -- a frame that took codes in shows them, and the other frames what they showed
-pub tray-written : (c : Counts) (xs ys codes : List ℕ) (f : ℕ) → f < c .frames → length xs ≡ sizeOf (c .frames) (c .strips) (width (c .squares)) → length codes ≡ c .strips * c .squares → Below 256 codes
-  → Stored (c .strips) (c .squares) f codes xs ys → Written (trayShows c xs) f codes (trayShows c ys)
+pub tray-written : (c : Counts) (xs ys codes : List ℕ) (f : ℕ) → f < frameCount c → length xs ≡ sizeOf (frameCount c) (stripCount c) (width (squareCount c)) → length codes ≡ stripCount c * squareCount c → Below 256 codes
+    → Stored (stripCount c) (squareCount c) f codes xs ys → Written (trayShows c xs) f codes (trayShows c ys)
 tray-written c xs ys codes f there long many below put =
-    let fs = c .frames in
-    let n = c .strips in
-    let m = c .squares in
+    let fs = frameCount c in
+    let n = stripCount c in
+    let m = squareCount c in
     let w = width m in
     let long' = put .beside .long in
     let fit : eqb (length ys) (sizeOf fs n w) ≡ true = eq-eqb (length ys) (sizeOf fs n w) (long' ∙ long) in

@@ -31,7 +31,7 @@ strip-kept m codes at from lo hi xs ys h b s = record {
 
 -- one strip more; the numbers of its place and width by what they are equal to
 pub strips-more : (n m f s : ℕ) (codes xs ys zs : List ℕ) (at' m' : ℕ) → at' ≡ stripAt n (width m) f s → m' ≡ m → s < n → Filled n (width m) f s (stripOf n m f codes) xs ys
-  → Strip zs at' m' codes (s * m') → Beside ys zs at' (at' + width m') → Filled n (width m) f (s + 1) (stripOf n m f codes) xs zs
+    → Strip zs at' m' codes (s * m') → Beside ys zs at' (at' + width m') → Filled n (width m) f (s + 1) (stripOf n m f codes) xs zs
 strips-more n m f s codes xs ys zs at' m' ea em less old strip put =
     filled-more n (width m) f (stripOf n m f codes) s xs ys zs
     (λ t lo hi h b. strip-kept m codes (stripAt n (width m) f t) (t * m) lo hi ys zs h b)

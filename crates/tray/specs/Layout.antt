@@ -11,6 +11,7 @@ use mathlib.Core.List.{List}
 use Prim.Native.Nat.{ℕ, _+_, _*_}
 use lib.ListN.{length, getD}
 use lib.Dec.{eqb}
+use Rattle.medium.specs.Counts.{frameCount, stripCount, squareCount}
 use Rattle.medium.specs.declared.counts.Counts.{Counts}
 use Rattle.medium.specs.Meaning.{Meaning, Square, doubtful, clear}
 use Rattle.medium.specs.Places.{sizeOf, stripAt}
@@ -36,4 +37,4 @@ trayReads fs n m xs = record {
 }
 
 abbrev pub trayShows : Counts → List ℕ → Meaning
-trayShows c xs = within (c .frames) (c .strips) (c .squares) 256 (trayReads (c .frames) (c .strips) (c .squares) xs)
+trayShows c xs = within (frameCount c) (stripCount c) (squareCount c) 256 (trayReads (frameCount c) (stripCount c) (squareCount c) xs)

@@ -5,6 +5,7 @@ ghost use Prim.Native.Nat.{ℕ, _+_, _*_, _<_, _≤_};
 ghost use lib.Dec.{eqb};
 ghost use lib.ListN.{length, getD};
 ghost use Rattle.std.specs.Results.{Cases};
+ghost use Rattle.medium.specs.Counts.{frameCount, stripCount, squareCount};
 ghost use Rattle.medium.specs.declared.medium.Look.the-variants.{Gone};
 ghost use Rattle.medium.specs.Meaning.{lookOn, lookOf, openOf};
 ghost use Rattle.medium.specs.Memory.{Room, Beside};
@@ -19,7 +20,7 @@ use refusal::Refusal;
 
 // How many bytes a strip has.
 pub fn width(counts: Counts) -> usize
-    ensures value { λ r. ⌜ r ≡ widthOf (counts .squares) ⌝ }
+    ensures value { λ r. ⌜ r ≡ widthOf (squareCount counts) ⌝ }
     ensures below { λ r. ⌜ r ≤ 511 ⌝ }
 {
     1 + 2 * counts.squares()
@@ -27,7 +28,7 @@ pub fn width(counts: Counts) -> usize
 
 // Whether a memory has the length of a tray.
 pub fn suits(bytes: &[u8], counts: Counts) -> bool
-    ensures value { λ r. ⌜ r ≡ eqb (length (now (bytes .entry))) (sizeOf (counts .frames) (counts .strips) (widthOf (counts .squares))) ⌝ }
+    ensures value { λ r. ⌜ r ≡ eqb (length (now (bytes .entry))) (sizeOf (frameCount counts) (stripCount counts) (widthOf (squareCount counts))) ⌝ }
 {
     bytes.len() == counts.size(width(counts))
 }
@@ -61,8 +62,8 @@ fn store_strip(bytes: &mut [u8], at: usize, m: usize, codes: &[u8], from: usize)
 
 // Writes the codes of a frame. Asks for a frame that there is, in a memory of the right length, and for all its codes.
 pub fn store_frame(bytes: &mut [u8], counts: Counts, frame: usize, codes: &[u8])
-    requires { ⌜ Room counts (widthOf (counts .squares)) frame (now codes) (now bytes) ⌝ }
-    ensures frame { λ _. ⌜ Stored (counts .strips) (counts .squares) frame (now (codes .entry)) (now (bytes .entry)) (now (bytes .exit)) ⌝ }
+    requires { ⌜ Room counts (widthOf (squareCount counts)) frame (now codes) (now bytes) ⌝ }
+    ensures frame { λ _. ⌜ Stored (stripCount counts) (squareCount counts) frame (now (codes .entry)) (now (bytes .entry)) (now (bytes .exit)) ⌝ }
 {
     let m = counts.squares();
     for s in 0..counts.strips() {
@@ -102,14 +103,9 @@ pub fn open_at(bytes: &[u8], counts: Counts, frame: usize) -> Result<bool, Refus
 }
 
 // Writes the codes of a frame of a tray over these bytes. A code is a byte, so none passes the levels.
-pub fn write_at(
-    bytes: &mut [u8],
-    counts: Counts,
-    frame: usize,
-    codes: &[u8],
-) -> Result<(), Refusal>
+pub fn write_at(bytes: &mut [u8], counts: Counts, frame: usize, codes: &[u8]) -> Result<(), Refusal>
     ensures frame { λ r. ⌜ Writes (trayShows counts (now (bytes .entry))) frame (now (codes .entry)) r (trayShows counts (now (bytes .exit))) ⌝ }
-    ensures left { λ r. ⌜ Cases r (λ _. Stored (counts .strips) (counts .squares) frame (now (codes .entry)) (now (bytes .entry)) (now (bytes .exit))) (λ _. now (bytes .exit) ≡ now (bytes .entry)) ⌝ }
+    ensures left { λ r. ⌜ Cases r (λ _. Stored (stripCount counts) (squareCount counts) frame (now (codes .entry)) (now (bytes .entry)) (now (bytes .exit))) (λ _. now (bytes .exit) ≡ now (bytes .entry)) ⌝ }
 {
     if frame >= counts.frames() {
         return Err(Refusal::NoSuchPlace);

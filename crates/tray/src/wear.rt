@@ -3,6 +3,7 @@ ghost use mathlib.Core.Path.{_≡_};
 ghost use Prim.Native.Nat.{_+_};
 ghost use denote.Ref.{name};
 ghost use lib.ListN.{set};
+ghost use Rattle.medium.specs.Counts.{stripCount, squareCount};
 ghost use Rattle.medium.specs.Places.{stripAt};
 ghost use Rattle.tray.specs.Layout.{width as widthOf, codeAt, doubtAt};
 ghost use Rattle.tray.specs.Make.{no-strip, no-square, Wears};
@@ -29,7 +30,7 @@ pub fn set_code(
     square: usize,
     code: u8,
 ) -> Result<(), Refusal>
-    ensures left { λ r. ⌜ Wears (no-square counts frame strip square) (now (bytes .entry)) (set (set (now (bytes .entry)) (codeAt (counts .strips) (counts .squares) frame strip square) code) (doubtAt (counts .strips) (counts .squares) frame strip square) 0) r (now (bytes .exit)) ⌝ }
+    ensures left { λ r. ⌜ Wears (no-square counts frame strip square) (now (bytes .entry)) (set (set (now (bytes .entry)) (codeAt (stripCount counts) (squareCount counts) frame strip square) code) (doubtAt (stripCount counts) (squareCount counts) frame strip square) 0) r (now (bytes .exit)) ⌝ }
 {
     if frame >= counts.frames() || strip >= counts.strips() || square >= counts.squares() {
         return Err(Refusal::NoSuchPlace);
@@ -48,7 +49,7 @@ pub fn set_doubt(
     strip: usize,
     square: usize,
 ) -> Result<(), Refusal>
-    ensures left { λ r. ⌜ Wears (no-square counts frame strip square) (now (bytes .entry)) (set (now (bytes .entry)) (doubtAt (counts .strips) (counts .squares) frame strip square) 1) r (now (bytes .exit)) ⌝ }
+    ensures left { λ r. ⌜ Wears (no-square counts frame strip square) (now (bytes .entry)) (set (now (bytes .entry)) (doubtAt (stripCount counts) (squareCount counts) frame strip square) 1) r (now (bytes .exit)) ⌝ }
 {
     if frame >= counts.frames() || strip >= counts.strips() || square >= counts.squares() {
         return Err(Refusal::NoSuchPlace);
@@ -59,13 +60,8 @@ pub fn set_doubt(
 }
 
 // Sets the status byte of a strip to 1.
-pub fn set_gone(
-    bytes: &mut [u8],
-    counts: Counts,
-    frame: usize,
-    strip: usize,
-) -> Result<(), Refusal>
-    ensures left { λ r. ⌜ Wears (no-strip counts frame strip) (now (bytes .entry)) (set (now (bytes .entry)) (stripAt (counts .strips) (widthOf (counts .squares)) frame strip) 1) r (now (bytes .exit)) ⌝ }
+pub fn set_gone(bytes: &mut [u8], counts: Counts, frame: usize, strip: usize) -> Result<(), Refusal>
+    ensures left { λ r. ⌜ Wears (no-strip counts frame strip) (now (bytes .entry)) (set (now (bytes .entry)) (stripAt (stripCount counts) (widthOf (squareCount counts)) frame strip) 1) r (now (bytes .exit)) ⌝ }
 {
     if frame >= counts.frames() || strip >= counts.strips() {
         return Err(Refusal::NoSuchPlace);
@@ -83,7 +79,7 @@ impl<'a> Tray<'a> {
         square: usize,
         code: u8,
     ) -> Result<(), Refusal>
-        ensures left { λ r. ⌜ Wears (no-square (now (self .entry) .counts) frame strip square) (now (now (self .entry) .bytes)) (set (set (now (now (self .entry) .bytes)) (codeAt (now (self .entry) .counts .strips) (now (self .entry) .counts .squares) frame strip square) code) (doubtAt (now (self .entry) .counts .strips) (now (self .entry) .counts .squares) frame strip square) 0) r (now (now (self .exit) .bytes)) ⌝ ∗ ⌜ name (now (self .exit) .bytes) ≡ name (now (self .entry) .bytes) ⌝ }
+        ensures left { λ r. ⌜ Wears (no-square (now (self .entry) .counts) frame strip square) (now (now (self .entry) .bytes)) (set (set (now (now (self .entry) .bytes)) (codeAt (stripCount (now (self .entry) .counts)) (squareCount (now (self .entry) .counts)) frame strip square) code) (doubtAt (stripCount (now (self .entry) .counts)) (squareCount (now (self .entry) .counts)) frame strip square) 0) r (now (now (self .exit) .bytes)) ⌝ ∗ ⌜ name (now (self .exit) .bytes) ≡ name (now (self .entry) .bytes) ⌝ }
         ensures counts { λ _. ⌜ now (self .exit) .counts ≡ now (self .entry) .counts ⌝ }
     {
         let counts = self.counts;
@@ -92,7 +88,7 @@ impl<'a> Tray<'a> {
 
     /// Sets the doubt byte of a square to 1; refused with 3 if there is no such square.
     pub fn set_doubt(&mut self, frame: usize, strip: usize, square: usize) -> Result<(), Refusal>
-        ensures left { λ r. ⌜ Wears (no-square (now (self .entry) .counts) frame strip square) (now (now (self .entry) .bytes)) (set (now (now (self .entry) .bytes)) (doubtAt (now (self .entry) .counts .strips) (now (self .entry) .counts .squares) frame strip square) 1) r (now (now (self .exit) .bytes)) ⌝ ∗ ⌜ name (now (self .exit) .bytes) ≡ name (now (self .entry) .bytes) ⌝ }
+        ensures left { λ r. ⌜ Wears (no-square (now (self .entry) .counts) frame strip square) (now (now (self .entry) .bytes)) (set (now (now (self .entry) .bytes)) (doubtAt (stripCount (now (self .entry) .counts)) (squareCount (now (self .entry) .counts)) frame strip square) 1) r (now (now (self .exit) .bytes)) ⌝ ∗ ⌜ name (now (self .exit) .bytes) ≡ name (now (self .entry) .bytes) ⌝ }
         ensures counts { λ _. ⌜ now (self .exit) .counts ≡ now (self .entry) .counts ⌝ }
     {
         let counts = self.counts;
@@ -101,7 +97,7 @@ impl<'a> Tray<'a> {
 
     /// Sets the status byte of a strip to 1; refused with 3 if there is no such strip.
     pub fn set_gone(&mut self, frame: usize, strip: usize) -> Result<(), Refusal>
-        ensures left { λ r. ⌜ Wears (no-strip (now (self .entry) .counts) frame strip) (now (now (self .entry) .bytes)) (set (now (now (self .entry) .bytes)) (stripAt (now (self .entry) .counts .strips) (widthOf (now (self .entry) .counts .squares)) frame strip) 1) r (now (now (self .exit) .bytes)) ⌝ ∗ ⌜ name (now (self .exit) .bytes) ≡ name (now (self .entry) .bytes) ⌝ }
+        ensures left { λ r. ⌜ Wears (no-strip (now (self .entry) .counts) frame strip) (now (now (self .entry) .bytes)) (set (now (now (self .entry) .bytes)) (stripAt (stripCount (now (self .entry) .counts)) (widthOf (squareCount (now (self .entry) .counts))) frame strip) 1) r (now (now (self .exit) .bytes)) ⌝ ∗ ⌜ name (now (self .exit) .bytes) ≡ name (now (self .entry) .bytes) ⌝ }
         ensures counts { λ _. ⌜ now (self .exit) .counts ≡ now (self .entry) .counts ⌝ }
     {
         let counts = self.counts;

@@ -12,7 +12,7 @@ pub returns : need.returns
 returns c =
     record {
       value =
-        ap (λ x. Ok x) (c .look-in .ensures .value)
-        ∙ sym (look-suited (c .args .counts) (c .args .bytes .now) (c .args .frame) (c .args .strip) (c .args .square) (omega arith) (omega arith) (omega arith) (sym (c .if-not-suits .ensures tt .value))
-        (c .strip-at-at .result) (c .squares-2 .result) (c .width .result) (c .strip-at-at .ensures .value) (c .width .ensures .value) (c .squares-2 .ensures .value));
+          ap (λ x. Ok x) (c .look-in .ensures .value)
+          ∙ sym (look-suited (c .args .counts) (c .args .bytes .now) (c .args .frame) (c .args .strip) (c .args .square) (omega arith) (omega arith) (omega arith) (sym (c .if-not-suits .ensures tt .value))
+          (c .strip-at-at .result) (c .squares-2 .result) (c .width .result) (c .strip-at-at .ensures .value) (c .width .ensures .value) (c .squares-2 .ensures .value));
     }

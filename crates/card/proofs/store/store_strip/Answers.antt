@@ -21,7 +21,7 @@ loop-k-again c =
     )
 
 pub returns : need.returns
-returns c = 
+returns c =
     let b = c .loop-k .bytes in
     let p = c .args .at + c .args .m in
     let inv = c .loop-k .inv in

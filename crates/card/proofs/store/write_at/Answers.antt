@@ -3,6 +3,7 @@ use mathlib.Core.Bool.{Bool, true, false, cond}
 use native.Mathlib.Omega.{arith}
 use Rattle.std.specs.declared.result.Result.the-variants.{Ok}
 use Rattle.std.proofs.shelf.Tests.{eqb-true, both-ways}
+use Rattle.medium.specs.Counts.{frameCount, stripCount, squareCount}
 use Rattle.medium.proofs.Inside.{open-there}
 use Rattle.medium.proofs.Writing.{done}
 use Rattle.card.specs.Layout.{cardReads, cardShows}
@@ -25,6 +26,6 @@ returns c =
     let below = c .all-below .ensures .below .0 (c .if-not-all-below .left) in
     let put = c .store-frame .ensures .frame in
     record {
-      frame = done (cardShows t xs) (cardShows t ys) f codes (Ok tt) (omega arith) many below (open-there (t .frames) (t .strips) (t .squares) 37 (cardReads (t .frames) (t .strips) (t .squares) xs) f (omega arith) ∙ blank) refl (card-written t xs ys codes f (omega arith) (eqb-true _ _ (first-of _ _ blank)) many below put);
+      frame = done (cardShows t xs) (cardShows t ys) f codes (Ok tt) (omega arith) many below (open-there (frameCount t) (stripCount t) (squareCount t) 37 (cardReads (frameCount t) (stripCount t) (squareCount t) xs) f (omega arith) ∙ blank) refl (card-written t xs ys codes f (omega arith) (eqb-true _ _ (first-of _ _ blank)) many below put);
       left = put;
     }

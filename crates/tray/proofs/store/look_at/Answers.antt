@@ -1,6 +1,7 @@
 use mathlib.Core.Path.{_≡_, refl, sym, ap, _∙_}
 use native.Mathlib.Omega.{arith}
 use Rattle.std.specs.declared.result.Result.the-variants.{Ok}
+use Rattle.medium.specs.Counts.{stripCount}
 use Rattle.medium.specs.Places.{stripAt}
 use Rattle.tray.proofs.Shows.{look-unsuited, look-suited}
 use Rattle.tray.proofs.store.look_at.Needs as need
@@ -14,7 +15,7 @@ returns c =
     let t = c .args .counts in
     record {
       value =
-        ap (λ x. Ok x) (c .look-in .ensures .value)
-        ∙ sym (look-suited t (c .args .bytes .now) (c .args .frame) (c .args .strip) (c .args .square) (omega arith) (omega arith) (omega arith) (sym (c .if-not-suits .ensures tt .value))
-        (c .strip-at-at .result) (c .squares-2 .result) (c .strip-at-at .ensures .value ∙ ap (λ w. stripAt (t .strips) w (c .args .frame) (c .args .strip)) (c .width .ensures .value)) (c .squares-2 .ensures .value));
+          ap (λ x. Ok x) (c .look-in .ensures .value)
+          ∙ sym (look-suited t (c .args .bytes .now) (c .args .frame) (c .args .strip) (c .args .square) (omega arith) (omega arith) (omega arith) (sym (c .if-not-suits .ensures tt .value))
+          (c .strip-at-at .result) (c .squares-2 .result) (c .strip-at-at .ensures .value ∙ ap (λ w. stripAt (stripCount t) w (c .args .frame) (c .args .strip)) (c .width .ensures .value)) (c .squares-2 .ensures .value));
     }

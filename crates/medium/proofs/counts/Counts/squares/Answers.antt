@@ -1,11 +1,16 @@
-use borrow.Author.Needs.{needs}
+use mathlib.Core.Path.{sym, _∙_}
 use native.Mathlib.Omega.{arith}
-use Rattle.medium.proofs.Places.{some-each}
+use Rattle.medium.proofs.Counted.{squares-kept, squares-else, bounds}
 use Rattle.medium.proofs.counts.Counts.squares.Needs as need
 
-pub returns : need.returns
-returns c =
+pub returns-then-kept : need.returns-then-kept
+returns-then-kept c =
     let t = c .args .self .now in
-    let e = some-each (t .strips) (t .squares) (t .suited .2) in
-    let h = t .suited .3 in
-    record { value = search needs; below = (omega arith, omega arith) }
+    let e = squares-kept t (sym (c .if-kept .ensures tt .value)) in
+    let b = bounds t in
+    record { value = sym e; below = (omega arith, omega arith) }
+
+pub returns-else-kept : need.returns-else-kept
+returns-else-kept c =
+    let t = c .args .self .now in
+    record { value = sym (squares-else t (sym (c .if-kept .ensures tt .value))); below = (omega arith, omega arith) }
