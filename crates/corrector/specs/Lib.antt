@@ -1,0 +1,4 @@
+pub mod Rooms
+pub mod Shown
+pub mod Attempts
+pub mod Corrects
