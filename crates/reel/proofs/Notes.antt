@@ -41,7 +41,7 @@ module _ (w : Meaning) (f m p : ℕ) (codes strips squares : List ℕ) (a b x : 
   sighted-more hc hs hq old new =
       below-more _ _
       (λ k h. let ne : k ≢ p = omega arith in
-        same-note (lookAt w f (k / m) (k % m)) (strip k h) (ap (λ t. not (eqb t 0)) (getD-set-other squares p k b 0 ne)) (getD-set-other codes p k x 0 ne) (old k h))
+      same-note (lookAt w f (k / m) (k % m)) (strip k h) (ap (λ t. not (eqb t 0)) (getD-set-other squares p k b 0 ne)) (getD-set-other codes p k x 0 ne) (old k h))
       (same-note (lookAt w f (p / m) (p % m)) (ap (λ t. not (eqb t 0)) (getD-set-same strips (p / m) a 0 hs)) (ap (λ t. not (eqb t 0)) (getD-set-same squares p b 0 hq)) (getD-set-same codes p x 0 hc) new)
     where
       gone-now : not (eqb a 0) ≡ w .gone f (p / m)
@@ -50,7 +50,7 @@ module _ (w : Meaning) (f m p : ℕ) (codes strips squares : List ℕ) (a b x : 
       strip : (k : ℕ) → k < p → marked (set strips (p / m) a) (k / m) ≡ marked strips (k / m)
       strip k h = ⊎-elim
           (λ e. ap (λ t. not (eqb t 0)) (ap (λ t. getD (set strips (p / m) a) t 0) e ∙ getD-set-same strips (p / m) a 0 hs) ∙ gone-now ∙ ap (w .gone f) (sym e)
-            ∙ sym (noted-gone (w .gone f (k / m)) (w .square f (k / m) (k % m)) _ _ _ (old k h)))
+          ∙ sym (noted-gone (w .gone f (k / m)) (w .square f (k / m) (k % m)) _ _ _ (old k h)))
           (λ ne. ap (λ t. not (eqb t 0)) (getD-set-other strips (p / m) (k / m) a 0 ne)) (cases-eq (k / m) (p / m))
 
 some-squares : (n m p : ℕ) → p < n * m → 1 ≤ m

@@ -1,3 +1,3 @@
 pub mod Sight
 pub mod Calls
-pub mod Corrects
+pub mod Loading

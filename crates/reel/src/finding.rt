@@ -6,7 +6,7 @@ ghost use Rattle.kept.specs.Shows.{shown-of};
 ghost use Rattle.kept.specs.Calls.{Finds};
 ghost use Rattle.reel.specs.Calls.{code-on, Ready};
 use crate::sight::look_over;
-use crate::stub::correct;
+use corrector::correct;
 use field::Field;
 use fitting::Counts;
 use geometry::Geometry;

@@ -14,6 +14,18 @@ use medium::Look;
 use medium::Medium;
 use refusal::Refusal;
 
+// Whether a frame is open for writing. Asks for a frame that there is.
+pub fn is_open<M: Medium>(medium: &mut M, frame: usize) -> bool
+    requires there { ⌜ frame < M·Medium .shows (now medium) .frames ⌝ }
+    ensures same { λ _. ⌜ M·Medium .shows (now (medium .exit)) ≡ M·Medium .shows (now (medium .entry)) ⌝ }
+    ensures value { λ r. ⌜ r ≡ M·Medium .shows (now (medium .entry)) .unlocked frame ⌝ }
+{
+    match medium.is_open(frame) {
+        Ok(open) => open,
+        Err(_) => false,
+    }
+}
+
 // Whether a square clearly shows a code.
 fn shows_code<M: Medium>(
     medium: &mut M,

@@ -26,8 +26,7 @@ loop-p-again g c =
     let n = c .note-gone .result in
     let is = same-ok (c .look .result) (c .in-Continue-look .was tt) ok in
     let new : Noted (lookAt w (c .args .frame) (p / m) (p % m)) (not (eqb (n .0) 0)) (not (eqb (n .1) 0)) (n .2) = subst (λ t. Noted t (not (eqb (n .0) 0)) (not (eqb (n .1) 0)) (n .2)) is (c .note-gone .ensures .value) in
-    let strip : p / m < length (c .loop-p .strip-marks) = search needs in
-    (
+    let strip : p / m < length (c .loop-p .strip-marks) = search needs in (
       c .look .ensures .same ∙ c .loop-p .inv .0,
       sighted-more w (c .args .frame) m p (c .loop-p .codes) (c .loop-p .strip-marks) (c .loop-p .square-marks) (n .0) (n .1) (n .2) (omega arith) strip (omega arith) (c .loop-p .inv .1) new,
       search needs,
