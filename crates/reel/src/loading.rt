@@ -1,5 +1,4 @@
 // Which media suit a geometry over a field.
-ghost use mathlib.Core.Path.{_≡_};
 ghost use Rattle.reel.specs.Sight.{Decides};
 ghost use Rattle.reel.specs.Calls.{Ready};
 use field::Field;

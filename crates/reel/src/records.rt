@@ -1,5 +1,4 @@
 // Storing and reading a record, on a reel that is ready.
-ghost use mathlib.Core.Path.{_≡_};
 ghost use Prim.Native.Nat.{_≤_};
 ghost use lib.ListN.{length};
 ghost use Rattle.kept.specs.Calls.{Stores, Reads};

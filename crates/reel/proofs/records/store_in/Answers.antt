@@ -1,12 +1,12 @@
 use mathlib.Core.Path.{_≡_, refl, sym, ap, subst, _∙_}
 use mathlib.Core.Bool.{true, false}
-use Prim.Native.Nat.{_<_, _≤_, _*_}
+use Prim.Native.Nat.{_≤_, _*_}
 use native.Mathlib.Omega.{arith}
 use lib.ListN.{length, take}
 use borrow.Author.Needs.{needs}
 use Rattle.std.proofs.shelf.Lists.{length-take-le}
 use Rattle.std.proofs.shelf.Results.{err-from-errBy}
-use Rattle.std.specs.declared.result.Result.the-variants.{Ok, Err}
+use Rattle.std.specs.declared.result.Result.the-variants.{Err}
 use Rattle.refusal.proofs.Causes.{same-err}
 use Rattle.reel.proofs.Found.{frame-held}
 use Rattle.reel.proofs.Encoded.{store-refused, store-closed, stored}

@@ -1,10 +1,8 @@
-use mathlib.Core.Path.{_≡_, refl, sym, ap, subst, _∙_}
+use mathlib.Core.Path.{refl, sym, subst}
 use mathlib.Core.Logic.{inl, inr}
-use mathlib.Core.Bool.{true, false}
 use borrow.Author.Needs.{needs}
 use Rattle.medium.specs.Write.{Written}
 use Rattle.kept.specs.Shows.{Shows}
-use Rattle.reel.specs.Sight.{Decides}
 use Rattle.reel.proofs.Notes.{wrote}
 use Rattle.reel.proofs.writing.put.Needs as need
 

@@ -1,13 +1,12 @@
 use mathlib.Core.Path.{_≡_, refl, sym, ap, subst, _∙_}
-use Prim.Native.Nat.{ℕ, _<_, _≤_, _*_, _/_, _%_}
+use Prim.Native.Nat.{_<_, _≤_, _*_, _/_, _%_}
 use native.Mathlib.Omega.{arith}
 use lib.ListN.{getD, length}
 use borrow.Author.Needs.{needs}
 use Rattle.std.specs.declared.result.Result.the-variants.{Ok}
 use Rattle.medium.specs.declared.medium.Look.the-variants.{Clear}
-use Rattle.medium.specs.Meaning.{lookAt, lookOf}
+use Rattle.medium.specs.Meaning.{lookOf}
 use Rattle.kept.proofs.Looks.{shows-at, shows-all}
-use Rattle.reel.specs.Sight.{Decides}
 use Rattle.reel.proofs.Notes.{looked-at}
 use Rattle.reel.proofs.writing.shows_codes.Needs as need
 

@@ -1,6 +1,6 @@
 use mathlib.Core.Path.{refl}
 use borrow.Author.Needs.{needs}
-use Rattle.reel.specs.Calls.{code-on, Ready}
+use Rattle.reel.specs.Calls.{Ready}
 use Rattle.reel.proofs.Loaded.{ready-does}
 use Rattle.reel.proofs.reel.Reel.copy.Needs as need
 
