@@ -18,7 +18,7 @@ use Rattle.medium.specs.Meaning.{Meaning}
 use Rattle.fitting.specs.declared.counts.Counts.{Counts}
 use Rattle.fitting.specs.Marks.{shown-by}
 use Rattle.corrector.specs.Corrects.{no-correct, Corrected}
-use Rattle.corrector.specs.Shown.{shows}
+use Rattle.attempts.specs.Shown.{shows}
 use Rattle.kept.specs.Shows.{shown-of, Agree}
 use Rattle.kept.specs.Code.{Lawful}
 use Rattle.kept.specs.Calls.{Suits, Finds, Too-worn}
