@@ -1,4 +1,6 @@
 // The theory of the code, over every field that keeps the laws. Nothing here runs.
+#![tactic(auto)]
+
 ghost use Rattle.algebra.specs.Statements.{FrameUnique, FitUnique, RecordsApart, ExactFits, FitsHigher};
 
 /// A record has at most one frame.

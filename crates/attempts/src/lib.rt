@@ -1,4 +1,6 @@
 // Attempts at a fitting frame: with no silent square, then with each clear square for the silent one.
+#![tactic(auto)]
+
 mod attempt;
 mod reading;
 mod search;

@@ -1,4 +1,6 @@
 // The candidate: the one frame that an array may have been.
+#![tactic(auto)]
+
 mod erasures;
 mod strips;
 

@@ -1,4 +1,6 @@
 // A card: a medium in the caller's memory that people can read, one character to a square.
+#![tactic(auto)]
+
 mod alphabet;
 mod card;
 mod make;

@@ -1,4 +1,6 @@
 // cardmaker M N C: records in card characters from the input, a line to each, and their frames to the output.
+#![tactic(auto)]
+
 use cardtext::{LINE, frame_line, keep, parse_number};
 use geometry::Geometry;
 use refusal::Refusal;

@@ -1,4 +1,6 @@
 // Records and frames of cards as lines of text.
+#![tactic(auto)]
+
 mod line;
 mod number;
 mod record;

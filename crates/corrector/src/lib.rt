@@ -1,4 +1,6 @@
 // Correction: the frame that fits what is shown.
+#![tactic(auto)]
+
 mod showing;
 mod sums;
 

@@ -1,4 +1,6 @@
 // Finite fields on codes.
+#![tactic(auto)]
+
 mod bytes;
 mod field;
 mod logs;

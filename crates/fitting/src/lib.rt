@@ -1,4 +1,6 @@
 // Whether a frame fits what is shown of it.
+#![tactic(auto)]
+
 mod counts;
 mod decision;
 mod wrong;

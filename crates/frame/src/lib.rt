@@ -1,4 +1,6 @@
 // The published code: check sums, and the frame of a record.
+#![tactic(auto)]
+
 mod encoder;
 mod power_sums;
 mod syndromes;

@@ -1,4 +1,6 @@
 // How a frame is laid out.
+#![tactic(auto)]
+
 ghost use Rattle.std.specs.Prelude.{◌≡◌, ◌-◌, ◌*◌, MatchResult};
 ghost use Rattle.refusal.specs.declared.Refusal.TheVariants.{BadGeometry};
 ghost use Rattle.geometry.specs.Rule.{Rule};

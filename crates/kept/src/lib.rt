@@ -1,4 +1,6 @@
 // What a reel promises over any list of calls and of wear. Nothing here runs.
+#![tactic(auto)]
+
 ghost use Rattle.kept.specs.Statements.{KeptRecords, RecordsApart};
 
 /// Through every list of calls and of wear, a record that the book keeps stands: its frame fits what is shown, a read returns

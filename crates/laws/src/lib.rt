@@ -1,4 +1,6 @@
 // The laws of a finite field on codes, and that the fields of the product keep them. Theory only.
+#![tactic(auto)]
+
 ghost use Rattle.laws.specs.Ops.{Laws};
 ghost use Rattle.laws.specs.Instances.{bytes, mod37};
 

@@ -1,4 +1,6 @@
 // The lines that a script prints: one for each command, and one for an error in the script itself.
+#![tactic(auto)]
+
 mod line;
 #[cfg(test)]
 mod tests;

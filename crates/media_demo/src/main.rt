@@ -2,6 +2,8 @@
 //
 // The tray is looked at through a head that moves. A line has the byte, then how a square looks: with the byte as its status, as its code and as its doubt on a tray, and as
 // its character on a card, alone and beside an `A`. A clear square is its code; 256 is gone, 257 doubtful, 258 refused.
+#![tactic(auto)]
+
 mod head;
 
 use card::Card;

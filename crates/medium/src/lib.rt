@@ -1,4 +1,6 @@
 // A medium of frames, each of strips of squares: what it means, and what it answers.
+#![tactic(auto)]
+
 mod counts;
 mod medium;
 

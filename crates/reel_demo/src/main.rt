@@ -1,6 +1,8 @@
 // Stores, wears, reads, mends and copies, on a tray and on a card, and prints each step.
 //
 // Both have two frames of five strips of two squares, three strips of them checks, so that a record has four symbols.
+#![tactic(auto)]
+
 use card::Card;
 use field::{Bytes, Field, Mod37};
 use fitting::Counts;

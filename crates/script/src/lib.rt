@@ -1,4 +1,6 @@
 // Scripts: the header and the commands that a script spells.
+#![tactic(auto)]
+
 mod grammar;
 #[cfg(test)]
 mod tests;

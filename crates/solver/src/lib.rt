@@ -1,4 +1,6 @@
 // Linear algebra over any field: Vandermonde systems, the key equation, and one row's errors and erasures.
+#![tactic(auto)]
+
 mod key_equation;
 mod row;
 mod table;

@@ -2,6 +2,8 @@
 //
 // `F FIELD M N C RECORD` is answered by the record's frame, `FIELD M N C SHOWING` by the number of the refusal, or by 0, the three
 // counts and the fitting frame. FIELD is 0 for the byte field and 1 for the field of 37.
+#![tactic(auto)]
+
 mod text;
 
 use cardtext::parse_number;
