@@ -26,7 +26,7 @@ fn all_below(codes: &[u8]) -> bool
 
 // Writes the characters of m codes, from the place `from` on, and a newline. Asks for a strip inside the memory.
 fn store_strip(bytes: &mut [u8], at: usize, m: usize, codes: &[u8], from: usize)
-    requires* { ⌜ at + width_of m ≤ length bytes.old ⌝ ∗ (⌜ from + m ≤ length codes.now ⌝ ∗ ⌜ Below 37 codes.now ⌝) }
+    requires { (at + width_of m ≤ length bytes.old) × ((from + m ≤ length codes.now) × (Below 37 codes.now)) }
     ensures frame { Line bytes.new at m codes.now from }
     ensures same { Beside bytes.old bytes.new at (at + width_of m) }
 {

@@ -40,7 +40,7 @@ fn ending(n: usize, j: usize) -> u8
 
 // Writes the characters of m squares, from the place `from` on, and what ends them. Asks for a strip inside the buffer.
 fn write_strip(out: &mut [u8], at: usize, m: usize, squares: &[u8], from: usize, end: u8)
-    requires* { ⌜ at + width m ≤ length out.old ⌝ ∗ (⌜ from + m ≤ length squares.now ⌝ ∗ ⌜ Below 37 squares.now ⌝) }
+    requires { (at + width m ≤ length out.old) × ((from + m ≤ length squares.now) × (Below 37 squares.now)) }
     ensures value { Group out.new at m squares.now from end }
     ensures same { Beside out.old out.new at (at + width m) }
 {
@@ -52,7 +52,7 @@ fn write_strip(out: &mut [u8], at: usize, m: usize, squares: &[u8], from: usize,
 
 // Writes the n strips of an array. Asks for room, and for squares that have characters.
 pub fn write_text(out: &mut [u8], m: usize, n: usize, squares: &[u8])
-    requires* { ⌜ n * width m ≤ length out.old ⌝ ∗ (⌜ length squares.now ≡ n * m ⌝ ∗ ⌜ Below 37 squares.now ⌝) }
+    requires { (n * width m ≤ length out.old) × ((length squares.now ≡ n * m) × (Below 37 squares.now)) }
     ensures value { Text m n squares.now out.new n }
     ensures same { Beside out.old out.new 0 (n * width m) }
 {

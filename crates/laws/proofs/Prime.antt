@@ -116,12 +116,12 @@ module _ (p g : ℕ) (tested : Tested p g) where
     inv_zero = in_1 p 0 _ pos ∙ no_inverse;
     add_comm = λ a b ha hb. in_2 p a b _ ha hb ∙ ap (λ n. n % p) (add_comm a b) ∙ sym (in_2 p b a _ hb ha);
     add_assoc = sums p g two;
-    add-zero = λ a h. in_2 p a 0 _ h pos ∙ ap (λ n. n % p) (add-zero a) ∙ mod-eq_of_lt h;
+    add_zero = λ a h. in_2 p a 0 _ h pos ∙ ap (λ n. n % p) (add-zero a) ∙ mod-eq_of_lt h;
     add_neg = with_neg p g two;
     mul_comm = λ a b ha hb. in_2 p a b _ ha hb ∙ ap (λ n. n % p) (mul_comm a b) ∙ sym (in_2 p b a _ hb ha);
     mul_assoc = products p g two;
-    mul-one = λ a h. in_2 p a 1 _ h two ∙ ap (λ n. n % p) (mul-one a) ∙ mod-eq_of_lt h;
+    mul_one = λ a h. in_2 p a 1 _ h two ∙ ap (λ n. n % p) (mul-one a) ∙ mod-eq_of_lt h;
     mul_inv = λ a h n. ap (λ x. (modular p g).mul a x) (in_1 p a _ h) ∙ in_2 p a (a ^ (p - 2) % p) _ h (mod-lt _ pos) ∙ inverse a h n;
-    mul-add = distributed p g two;
+    mul_add = distributed p g two;
     powers_apart = apart;
   }

@@ -13,7 +13,7 @@ use field::Field;
 fn strike<F: Field>(points: &[u8], gone: &[bool], values: &mut [u8]) -> usize
     requires { (length gone.now ≡ length points.now) × (count (length points.now) (marked gone.now) ≤ length values.old) }
     ensures value { result ≡ count (length points.now) (marked gone.now) }
-    ensures by_index { (i : ℕ) → result + i < length values.old → slice_index values.new (result + i) ≡ struck F.Field.ops points.now gone.now values.old (length points.now) i }
+    ensures rest { (i : ℕ) → result + i < length values.old → slice_index values.new (result + i) ≡ struck F.Field.ops points.now gone.now values.old (length points.now) i }
 {
     let mut k = 0;
     for j in 0..points.len() {
@@ -56,7 +56,7 @@ fn choose<F: Field>(points: &[u8], gone: &[bool], ws: &[u8; 128], n: usize, mask
 fn gather(points: &[u8], mask: &[bool], out: &mut [u8]) -> usize
     requires { (length mask.now ≡ length points.now) × (count (length points.now) (marked mask.now) ≤ length out.old) }
     ensures value { result ≡ count (length points.now) (marked mask.now) }
-    ensures by_index { (j : ℕ) → j < length points.now → marked mask.now j ≡ true → slice_index out.new (count j (marked mask.now)) ≡ slice_index points.now j }
+    ensures picked { (j : ℕ) → j < length points.now → marked mask.now j ≡ true → slice_index out.new (count j (marked mask.now)) ≡ slice_index points.now j }
 {
     let mut k = 0;
     for j in 0..points.len() {
@@ -117,7 +117,7 @@ fn restore<F: Field>(
     values: &mut [u8],
 )
     requires row { (Row F.Field.ops points.now sums.now mask.now) × (length out.old ≡ length points.now) }
-    requires sums_in_bounds { (length sums.now ≤ length chosen.old) × (length sums.now ≤ length values.old) }
+    requires room { (length sums.now ≤ length chosen.old) × (length sums.now ≤ length values.old) }
     ensures { Restored F.Field.ops points.now sums.now mask.now out.new }
 {
     let r = gather(points, mask, chosen);
@@ -137,7 +137,7 @@ fn correct<F: Field>(
     two: &mut [u8],
 )
     requires row { (Row F.Field.ops points.now sums.now gone.now) × (length out.old ≡ length points.now) }
-    requires mask_len { (length mask.old ≡ 256) × ((length one.old ≡ 256) × (length two.old ≡ 256)) }
+    requires room { (length mask.old ≡ 256) × ((length one.old ≡ 256) × (length two.old ≡ 256)) }
     ensures below { Below F.Field.ops.order out.new }
     ensures is { (wrong : ℕ → Bool) (e : List ℕ) → Word F.Field.ops points.now sums.now gone.now wrong e → (j : ℕ) → j < length points.now → slice_index out.new j ≡ slice_index e j }
 {

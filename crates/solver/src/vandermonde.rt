@@ -17,8 +17,8 @@ pub fn peel<F: Field>(b: u8, values: &mut [u8])
 // From what the other points weigh in the peeled sums, what each point weighs.
 pub fn unpeel<F: Field>(points: &[u8], values: &mut [u8])
     requires { (0 < length points.now) × (length values.old ≡ length points.now) }
-    ensures by_index { (t : ℕ) → suc t < length points.now → slice_index values.new (suc t) ≡ found F.Field.ops points.now values.old t }
-    ensures values_after { slice_index values.new 0 ≡ less F.Field.ops (slice_index values.old 0) (sum_of F.Field.ops (length points.now - 1) (found F.Field.ops points.now values.old)) }
+    ensures rest { (t : ℕ) → suc t < length points.now → slice_index values.new (suc t) ≡ found F.Field.ops points.now values.old t }
+    ensures first { slice_index values.new 0 ≡ less F.Field.ops (slice_index values.old 0) (sum_of F.Field.ops (length points.now - 1) (found F.Field.ops points.now values.old)) }
 {
     let mut all = 0;
     for t in 0..points.len() - 1 {

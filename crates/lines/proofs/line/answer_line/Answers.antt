@@ -9,7 +9,7 @@ returns c = record {
       let answered = c.put_answer-answered.ensures in
       let newline = c.put.ensures.value in
       inr (
-        λ bad. elim bad [ inl size ↦ size (omega arith) | inr long ↦ omega (arith, c.symbols_given.ensures.value, c.if-symbols_given-gt-RECORD-MOST.false) ],
+        λ bad. elim bad [ inl size ↦ size (omega arith) | inr long ↦ omega (arith, c.symbols_given.ensures.value, c.if-symbols_given-gt-RECORD_MOST.false) ],
         printed _ _ _ _ (omega (arith, answered.below, newline.end))
             (puts_more _ _ _ _ _ _ _ _ named.value (puts_more _ _ _ _ _ _ _ _ answered.value newline)),
       );

@@ -8,13 +8,13 @@ pub restore-requires : goal.restore-requires
 restore-requires g c =
     let n = length c.args.points.now in
     let m = c.locate.new.mask in
-    let row = c.requires.0.0 in
+    let row = c.requires.row.0 in
     let narrow = row.narrow in
     let short = row.short in
     let lt : length (take n c.args.mask.now) ≡ n = simp length-take (omega arith) in
     let lm : length m ≡ n = omega (arith, c.locate.auto.mask) in
-    let e : take n (m ++ drop n c.args.mask.now) ≡ m = take_at m (drop n c.args.mask.now) n (omega arith) in (
-      (
+    let e : take n (m ++ drop n c.args.mask.now) ≡ m = take_at m (drop n c.args.mask.now) n (omega arith) in record {
+      row = (
         rw e (record {
           size = lm;
           points_below = row.points_below;
@@ -25,15 +25,15 @@ restore-requires g c =
           narrow = row.narrow;
         }),
         omega arith,
-      ),
-      (omega arith, omega (arith, c.locate.auto.sigma)),
-    )
+      );
+      room = (omega arith, omega (arith, c.locate.auto.sigma));
+    }
 
 pub returns : goal.returns
 returns g c =
     let n = length c.args.points.now in
     let m = c.locate.new.mask in
-    let row = c.requires.0.0 in
+    let row = c.requires.row.0 in
     let narrow = row.narrow in
     let lt : length (take n c.args.mask.now) ≡ n = simp length-take (omega arith) in
     let lm : length m ≡ n = omega (arith, c.locate.auto.mask) in

@@ -22,7 +22,7 @@ kernel-ws-requires g c =
       omega (arith, row.short),
       (
         omega arith,
-        λ i l. rw (get_d_window k size ps (drop size base) lp i (omega arith) ∙ c.strike-k.ensures.1 i (omega arith)) (struck_code F L c.args.points.now c.args.gone.now (take size base) bv (length c.args.points.now) i),
+        λ i l. rw (get_d_window k size ps (drop size base) lp i (omega arith) ∙ c.strike-k.ensures.rest i (omega arith)) (struck_code F L c.args.points.now c.args.gone.now (take size base) bv (length c.args.points.now) i),
       ),
     )
 
@@ -43,9 +43,9 @@ returns g c =
     let bv : Below F.order (take size base) = λ i l. rw (vs_is i (omega arith)) (row.sums_below i (omega arith)) in
     let few = row.room in
     let S_is : (i : ℕ) → i < size - k → get_or (take (size - k) (drop k (ps ++ drop size base))) i 0 ≡ struck F c.args.points.now c.args.gone.now (take size base) (length c.args.points.now) i
-    = λ i l. get_d_window k size ps (drop size base) lp i l ∙ c.strike-k.ensures.1 i (omega arith) in
+    = λ i l. get_d_window k size ps (drop size base) lp i l ∙ c.strike-k.ensures.rest i (omega arith) in
     located_codes F L c.args.points.now c.args.sums.now c.args.gone.now row (take size base) (take (size - k) (drop k (ps ++ drop size base))) c.kernel-ws.result c.choose.new.mask t
-    bv vs_is (omega (arith, c.strike-k.ensures.0)) (omega (arith, c.strike-k.ensures.0))
+    bv vs_is (omega (arith, c.strike-k.ensures.value)) (omega (arith, c.strike-k.ensures.value))
     (λ i l. rw (S_is i (omega arith)) (struck_code F L c.args.points.now c.args.gone.now (take size base) bv (length c.args.points.now) i))
-    (λ i l. S_is i (omega (arith, c.strike-k.ensures.0)))
+    (λ i l. S_is i (omega (arith, c.strike-k.ensures.value)))
     c.kernel-ws.ensures (λ j l. rw (add-one t) at (c.choose.ensures j l))

@@ -50,8 +50,8 @@ returns-then-points-gt0 g t c =
     let part_is : length (part 1 (length points) points) ≡ n = length_part 1 (length points) points (omega arith) in
     let mid : (k : ℕ) → k < n → get_or (put_mid 1 (length ps - 1) ps zs) (suc k) 0 ≡ get_or zs k 0 = λ k l. ap (λ q. get_or (put_mid 1 (length ps - 1) ps zs) q 0) (sym (one-add k)) ∙ put_in 1 (length ps - 1) ps zs k (omega arith) (omega arith) in
     let nexts : (k : ℕ) → k < n → found F points (put_mid 1 (length ps - 1) ps zs) k ≡ next F L n points vs ps zs xs size c.requires.points_below c.requires.values_below bz k = λ k l. ap (λ q. F.mul q (F.inv (less F (get_or points (suc k) 0) (get_or points 0 0)))) (mid k l) in
-    let rest : (k : ℕ) → k < n → get_or xs (suc k) 0 ≡ next F L n points vs ps zs xs size c.requires.points_below c.requires.values_below bz k = λ k l. c.unpeel.ensures.0 k (omega arith) ∙ nexts k l in
-    let head = c.unpeel.ensures.1
+    let rest : (k : ℕ) → k < n → get_or xs (suc k) 0 ≡ next F L n points vs ps zs xs size c.requires.points_below c.requires.values_below bz k = λ k l. c.unpeel.ensures.rest k (omega arith) ∙ nexts k l in
+    let head = c.unpeel.ensures.first
     ∙ cc (put_before 1 (length ps - 1) ps zs 0 (omega arith) (omega arith), sum_cong F n (found F points (put_mid 1 (length ps - 1) ps zs)) (next F L n points vs ps zs xs size c.requires.points_below c.requires.values_below bz) nexts) in
     let bx : Below F.order xs = λ i l. step_below F L n points vs ps zs xs size c.requires.points_below c.requires.values_below bz rest head i (omega arith) in
     record {

@@ -32,7 +32,7 @@ returns g c =
     let F = g.F.Field.ops in
     let vs = c.loop-t.values in
     let inv = c.loop-t.invariant in
-    let end : c.loop-t.t ≡ length c.args.points.now - 1 = omega arith in (
-      λ t h. get_or-set_other vs 0 (suc t) c.sub-2.result 0 (λ e. omega arith) ∙ inv.1 t (omega arith),
-      get_or-set_same vs 0 c.sub-2.result 0 (omega arith) ∙ cc (c.sub-2.ensures, inv.0, inv.3, end),
-    )
+    let end : c.loop-t.t ≡ length c.args.points.now - 1 = omega arith in record {
+      rest = λ t h. get_or-set_other vs 0 (suc t) c.sub-2.result 0 (λ e. omega arith) ∙ inv.1 t (omega arith);
+      first = get_or-set_same vs 0 c.sub-2.result 0 (omega arith) ∙ cc (c.sub-2.ensures, inv.0, inv.3, end);
+    }
