@@ -36,15 +36,15 @@ loop-p-preserved c =
     let d_is = c.loop-p.invariant.0 in
     let lp : p < length c.args.strip_marks.now * m = omega (arith, c.requires.sized.shown) in
     elim c.if-is_doubtful.branch [
-      | then-is_doubtful t ↦ (let h : doubt m w p ≡ true = sym c.is_doubtful.ensures.value ∙ t.if_is_doubtful.true in
+      | then-is_doubtful t ↦ (let h : doubt m w p ≡ true = sym c.is_doubtful.ensures.value ∙ t.if-is_doubtful.true in
           let r = count_room (doubt m w) p (length c.args.strip_marks.now * m) lp h in (
-            count_more m w p d d_is c.if-is_doubtful.d t.d_is h,
-            ranked_more m w p d d_is (λ p. p) c.loop-p.squares c.if-is_doubtful.squares p c.loop-p.invariant.1 (omega (arith, c.requires.squares)) refl t.squares_is,
-            ranked_more m w p d d_is (λ p. get_or c.args.locators.now p 0) c.loop-p.points c.if-is_doubtful.points (get_or c.args.locators.now p 0) c.loop-p.invariant.2 (omega (arith, c.requires.squares, c.requires.points)) refl t.points_is,
+            count_more m w p d d_is c.if-is_doubtful.d t.d-is h,
+            ranked_more m w p d d_is (λ p. p) c.loop-p.squares c.if-is_doubtful.squares p c.loop-p.invariant.1 (omega (arith, c.requires.squares)) refl t.squares-is,
+            ranked_more m w p d d_is (λ p. get_or c.args.locators.now p 0) c.loop-p.points c.if-is_doubtful.points (get_or c.args.locators.now p 0) c.loop-p.invariant.2 (omega (arith, c.requires.squares, c.requires.points)) refl t.points-is,
           ))
-      | else-is_doubtful t ↦ (let h : doubt m w p ≡ false = sym c.is_doubtful.ensures.value ∙ t.if_is_doubtful.false in (
-        count_same m w p d d_is c.if-is_doubtful.d t.d_is h,
-        ranked_same m w p d d_is (λ p. p) c.loop-p.squares c.if-is_doubtful.squares c.loop-p.invariant.1 t.squares_is h,
-        ranked_same m w p d d_is (λ p. get_or c.args.locators.now p 0) c.loop-p.points c.if-is_doubtful.points c.loop-p.invariant.2 t.points_is h,
+      | else-is_doubtful t ↦ (let h : doubt m w p ≡ false = sym c.is_doubtful.ensures.value ∙ t.if-is_doubtful.false in (
+        count_same m w p d d_is c.if-is_doubtful.d t.d-is h,
+        ranked_same m w p d d_is (λ p. p) c.loop-p.squares c.if-is_doubtful.squares c.loop-p.invariant.1 t.squares-is h,
+        ranked_same m w p d d_is (λ p. get_or c.args.locators.now p 0) c.loop-p.points c.if-is_doubtful.points c.loop-p.invariant.2 t.points-is h,
       ))
     ]

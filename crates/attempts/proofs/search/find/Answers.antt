@@ -26,8 +26,8 @@ returns-then-is_some g c =
       value = answered_early F silent_limit (omega arith) c.args.m (length c.args.strips.now) c.args.c w c.args.base.now c.requires.prepared.read c.args.d c.args.squares.now c.args.points.now c.requires.noted
           c.attempt-found.new.array c.attempt-found.result c.attempt-found.ensures.value
           (elim c.then-is_some.branch [
-            | then-is_some-via-then-is_some t ↦ inl (sym c.is_some.ensures ∙ t.if_is_some.true)
-            | then-is_some-via-else-is_some+then-m-d-lt2 t ↦ inr (omega (arith, t.if_m_d_lt2.true, c.requires.noted.few))
+            | then-is_some-via-then-is_some t ↦ inl (sym c.is_some.ensures ∙ t.if-is_some.true)
+            | then-is_some-via-else-is_some+then-m-d-lt2 t ↦ inr (omega (arith, t.if-m-d-lt2.true, c.requires.noted.few))
           ]);
     }
 

@@ -21,23 +21,23 @@ search-preserved g c =
     let s = c.search.square in
     let xs = c.args.base.now in
     let clear_is : c.is_clear.result ≡ clear m w s
-    = c.is_clear.ensures.value ∙ ap (λ q. clear m (shows q c.args.codes.now c.args.strip_marks.now c.args.square_marks.now) s) (c.order-order.ensures ∙ c.requires.suited.order-is) in
+    = c.is_clear.ensures.value ∙ ap (λ q. clear m (shows q c.args.codes.now c.args.strip_marks.now c.args.square_marks.now) s) (c.order-order.ensures ∙ c.requires.suited.order_is) in
     elim c.if-is_clear.branch [
-      | then-is_clear+else-is_some t ↦ (let r = t.try_square_found.result in
-          let none : r ≡ None = none_of r (sym t.is_some.ensures ∙ t.if_is_some.false) in (
-            t.found_is ∙ none,
-            subst (λ zs. Noted F m n w c.args.d c.if-is_clear.squares zs) (sym t.points_is) (subst (λ zs. Noted F m n w c.args.d zs t.try_square_found.new.points) (sym t.squares_is) t.try_square_found.ensures.kept),
+      | then-is_clear+else-is_some t ↦ (let r = t.try_square-found.result in
+          let none : r ≡ None = none_of r (sym t.is_some.ensures ∙ t.if-is_some.false) in (
+            t.found-is ∙ none,
+            subst (λ zs. Noted F m n w c.args.d c.if-is_clear.squares zs) (sym t.points-is) (subst (λ zs. Noted F m n w c.args.d zs t.try_square-found.new.points) (sym t.squares-is) t.try_square-found.ensures.kept),
             λ p l e. elim (cases_eq p s) [
               | inl q ↦ subst (λ (z : ℕ). Missed F silent_limit m n c.args.c w xs z) (sym q)
-                  (MatchOption-at_none (Missed F silent_limit m n c.args.c w xs s) (Hit F silent_limit m n c.args.c w t.try_square_found.new.array) none t.try_square_found.ensures.value)
+                  (MatchOption-at_none (Missed F silent_limit m n c.args.c w xs s) (Hit F silent_limit m n c.args.c w t.try_square-found.new.array) none t.try_square-found.ensures.value)
               | inr ne ↦ c.search.invariant.2 p (omega arith) e
             ],
           ))
       | else-is_clear t ↦ (
-        t.found_is ∙ c.search.invariant.0,
-        subst (λ zs. Noted F m n w c.args.d c.if-is_clear.squares zs) (sym t.points_is) (subst (λ zs. Noted F m n w c.args.d zs c.search.points) (sym t.squares_is) c.search.invariant.1),
+        t.found-is ∙ c.search.invariant.0,
+        subst (λ zs. Noted F m n w c.args.d c.if-is_clear.squares zs) (sym t.points-is) (subst (λ zs. Noted F m n w c.args.d zs c.search.points) (sym t.squares-is) c.search.invariant.1),
         λ p l e. elim (cases_eq p s) [
-          | inl q ↦ absurd (true≢false (sym e ∙ ap (clear m w) q ∙ sym clear_is ∙ t.if_is_clear.false))
+          | inl q ↦ absurd (true≢false (sym e ∙ ap (clear m w) q ∙ sym clear_is ∙ t.if-is_clear.false))
           | inr ne ↦ c.search.invariant.2 p (omega arith) e
         ],
       )

@@ -6,46 +6,46 @@ use Rattle.corrector.proofs.Preparing.{small, renamed, ready_sized}
 use Rattle.corrector.proofs.showing.cut_and_correct.Goals as goal
 
 pub slice_bounds-sum_up-end : goal.slice_bounds-sum_up-end
-slice_bounds-sum_up-end g c = let geo = c.args.geometry.now in omega (arith, c.strips-n.ensures, (small g.F.Field.ops g.met.F.Field.lawful geo.order geo.squares geo.strips geo.checks c.requires.ready.order-is geo.rule).0, c.requires.room.strips_size)
+slice_bounds-sum_up-end g c = let geo = c.args.geometry.now in omega (arith, c.strips-n.ensures, (small g.F.Field.ops g.met.F.Field.lawful geo.order geo.squares geo.strips geo.checks c.requires.ready.order_is geo.rule).0, c.requires.room.strips_size)
 
 pub slice_bounds-sum_up-end-2 : goal.slice_bounds-sum_up-end-2
-slice_bounds-sum_up-end-2 g c = let geo = c.args.geometry.now in sym (length-take-le c.strips-n.result c.args.strips.now (omega (arith, c.strips-n.ensures, (small g.F.Field.ops g.met.F.Field.lawful geo.order geo.squares geo.strips geo.checks c.requires.ready.order-is geo.rule).0, c.requires.room.strips_size)))
+slice_bounds-sum_up-end-2 g c = let geo = c.args.geometry.now in sym (length-take-le c.strips-n.result c.args.strips.now (omega (arith, c.strips-n.ensures, (small g.F.Field.ops g.met.F.Field.lawful geo.order geo.squares geo.strips geo.checks c.requires.ready.order_is geo.rule).0, c.requires.room.strips_size)))
 
 pub slice_bounds-sum_up-end-7 : goal.slice_bounds-sum_up-end-7
 slice_bounds-sum_up-end-7 g c =
     let geo = c.args.geometry.now in
     let e : c.squares-m.result * c.checks-c.result ≡ geo.squares * geo.checks = cc (c.squares-m.ensures, c.checks-c.ensures) in
-    omega (arith, (small g.F.Field.ops g.met.F.Field.lawful geo.order geo.squares geo.strips geo.checks c.requires.ready.order-is geo.rule).4, c.requires.room.table_size)
+    omega (arith, (small g.F.Field.ops g.met.F.Field.lawful geo.order geo.squares geo.strips geo.checks c.requires.ready.order_is geo.rule).4, c.requires.room.table_size)
 
 pub slice_bounds-sum_up-end-8 : goal.slice_bounds-sum_up-end-8
 slice_bounds-sum_up-end-8 g c =
     let geo = c.args.geometry.now in
     let e : c.squares-m.result * c.checks-c.result ≡ geo.squares * geo.checks = cc (c.squares-m.ensures, c.checks-c.ensures) in
-    sym (length-take-le (c.squares-m.result * c.checks-c.result) c.args.table.now (omega (arith, (small g.F.Field.ops g.met.F.Field.lawful geo.order geo.squares geo.strips geo.checks c.requires.ready.order-is geo.rule).4, c.requires.room.table_size)))
+    sym (length-take-le (c.squares-m.result * c.checks-c.result) c.args.table.now (omega (arith, (small g.F.Field.ops g.met.F.Field.lawful geo.order geo.squares geo.strips geo.checks c.requires.ready.order_is geo.rule).4, c.requires.room.table_size)))
 
 pub slice_bounds-sum_up-end-11 : goal.slice_bounds-sum_up-end-11
-slice_bounds-sum_up-end-11 g c = let geo = c.args.geometry.now in omega (arith, c.strips-n.ensures, (small g.F.Field.ops g.met.F.Field.lawful geo.order geo.squares geo.strips geo.checks c.requires.ready.order-is geo.rule).0, c.requires.room.row_size)
+slice_bounds-sum_up-end-11 g c = let geo = c.args.geometry.now in omega (arith, c.strips-n.ensures, (small g.F.Field.ops g.met.F.Field.lawful geo.order geo.squares geo.strips geo.checks c.requires.ready.order_is geo.rule).0, c.requires.room.row_size)
 
 pub slice_bounds-sum_up-end-12 : goal.slice_bounds-sum_up-end-12
-slice_bounds-sum_up-end-12 g c = let geo = c.args.geometry.now in sym (length-take-le c.strips-n.result c.args.row.now (omega (arith, c.strips-n.ensures, (small g.F.Field.ops g.met.F.Field.lawful geo.order geo.squares geo.strips geo.checks c.requires.ready.order-is geo.rule).0, c.requires.room.row_size)))
+slice_bounds-sum_up-end-12 g c = let geo = c.args.geometry.now in sym (length-take-le c.strips-n.result c.args.row.now (omega (arith, c.strips-n.ensures, (small g.F.Field.ops g.met.F.Field.lawful geo.order geo.squares geo.strips geo.checks c.requires.ready.order_is geo.rule).0, c.requires.room.row_size)))
 
 pub slice_bounds-sum_up-end-13 : goal.slice_bounds-sum_up-end-13
-slice_bounds-sum_up-end-13 g c = let geo = c.args.geometry.now in omega (arith, c.squares-m.ensures, (small g.F.Field.ops g.met.F.Field.lawful geo.order geo.squares geo.strips geo.checks c.requires.ready.order-is geo.rule).1, c.requires.room.work_size)
+slice_bounds-sum_up-end-13 g c = let geo = c.args.geometry.now in omega (arith, c.squares-m.ensures, (small g.F.Field.ops g.met.F.Field.lawful geo.order geo.squares geo.strips geo.checks c.requires.ready.order_is geo.rule).1, c.requires.room.work_size)
 
 pub slice_bounds-sum_up-end-14 : goal.slice_bounds-sum_up-end-14
-slice_bounds-sum_up-end-14 g c = let geo = c.args.geometry.now in sym (length-take-le c.squares-m.result c.args.work.now (omega (arith, c.squares-m.ensures, (small g.F.Field.ops g.met.F.Field.lawful geo.order geo.squares geo.strips geo.checks c.requires.ready.order-is geo.rule).1, c.requires.room.work_size)))
+slice_bounds-sum_up-end-14 g c = let geo = c.args.geometry.now in sym (length-take-le c.squares-m.result c.args.work.now (omega (arith, c.squares-m.ensures, (small g.F.Field.ops g.met.F.Field.lawful geo.order geo.squares geo.strips geo.checks c.requires.ready.order_is geo.rule).1, c.requires.room.work_size)))
 
 pub overflow_mul-m : goal.overflow_mul-m
 overflow_mul-m g c =
     let geo = c.args.geometry.now in
     let e : c.squares-m.result * c.checks-c.result ≡ geo.squares * geo.checks = cc (c.squares-m.ensures, c.checks-c.ensures) in
-    omega (arith, (small g.F.Field.ops g.met.F.Field.lawful geo.order geo.squares geo.strips geo.checks c.requires.ready.order-is geo.rule).4, c.requires.room.table_size)
+    omega (arith, (small g.F.Field.ops g.met.F.Field.lawful geo.order geo.squares geo.strips geo.checks c.requires.ready.order_is geo.rule).4, c.requires.room.table_size)
 
 pub overflow_mul-m-2 : goal.overflow_mul-m-2
 overflow_mul-m-2 g c =
     let geo = c.args.geometry.now in
     let e : c.squares-m.result * c.checks-c.result ≡ geo.squares * geo.checks = cc (c.squares-m.ensures, c.checks-c.ensures) in
-    omega (arith, (small g.F.Field.ops g.met.F.Field.lawful geo.order geo.squares geo.strips geo.checks c.requires.ready.order-is geo.rule).4, c.requires.room.table_size)
+    omega (arith, (small g.F.Field.ops g.met.F.Field.lawful geo.order geo.squares geo.strips geo.checks c.requires.ready.order_is geo.rule).4, c.requires.room.table_size)
 
 pub sum_up-requires : goal.sum_up-requires
 sum_up-requires g c =
@@ -63,7 +63,7 @@ sum_up-requires g c =
     let ec : geo.checks ≡ k = sym c.checks-c.ensures in
     let nr : c.strips-n.result ≡ n = c.strips-n.ensures ∙ en in
     let sr : c.frame_size-size.result ≡ n * m = c.frame_size-size.ensures ∙ cc (em, en) in
-    let s = small F L geo.order geo.squares geo.strips geo.checks c.requires.ready.order-is geo.rule in
+    let s = small F L geo.order geo.squares geo.strips geo.checks c.requires.ready.order_is geo.rule in
     let ln : c.strips-n.result ≤ 255 = omega (arith, s.0, c.strips-n.ensures) in
     let lm : m ≤ 255 = omega (arith, s.1) in
     let ls : c.frame_size-size.result ≤ 255 = omega (arith, s.3, c.frame_size-size.ensures) in
@@ -89,7 +89,7 @@ slice_bounds-correct_sums-end g c =
     let xs = c.sum_up.new.table in
     let old = c.args.table.now in
     let e : t ≡ geo.squares * geo.checks = cc (c.squares-m.ensures, c.checks-c.ensures) in
-    let short : t ≤ length old = omega (arith, (small g.F.Field.ops g.met.F.Field.lawful geo.order geo.squares geo.strips geo.checks c.requires.ready.order-is geo.rule).4, c.requires.room.table_size) in
+    let short : t ≤ length old = omega (arith, (small g.F.Field.ops g.met.F.Field.lawful geo.order geo.squares geo.strips geo.checks c.requires.ready.order_is geo.rule).4, c.requires.room.table_size) in
     let long : length xs ≡ t = c.sum_up.auto.table ∙ length-take-le t old short in
     omega (arith, length-append xs (drop t old))
 
@@ -100,7 +100,7 @@ slice_bounds-correct_sums-end-2 g c =
     let xs = c.sum_up.new.table in
     let old = c.args.table.now in
     let e : t ≡ geo.squares * geo.checks = cc (c.squares-m.ensures, c.checks-c.ensures) in
-    let short : t ≤ length old = omega (arith, (small g.F.Field.ops g.met.F.Field.lawful geo.order geo.squares geo.strips geo.checks c.requires.ready.order-is geo.rule).4, c.requires.room.table_size) in
+    let short : t ≤ length old = omega (arith, (small g.F.Field.ops g.met.F.Field.lawful geo.order geo.squares geo.strips geo.checks c.requires.ready.order_is geo.rule).4, c.requires.room.table_size) in
     let long : length xs ≡ t = c.sum_up.auto.table ∙ length-take-le t old short in
     sym (ap length (take_at xs (drop t old) t long) ∙ long)
 
@@ -113,7 +113,7 @@ correct_sums-requires g c =
     let xs = c.sum_up.new.table in
     let old = c.args.table.now in
     let e : t ≡ geo.squares * geo.checks = cc (c.squares-m.ensures, c.checks-c.ensures) in
-    let short : t ≤ length old = omega (arith, (small g.F.Field.ops g.met.F.Field.lawful geo.order geo.squares geo.strips geo.checks c.requires.ready.order-is geo.rule).4, c.requires.room.table_size) in
+    let short : t ≤ length old = omega (arith, (small g.F.Field.ops g.met.F.Field.lawful geo.order geo.squares geo.strips geo.checks c.requires.ready.order_is geo.rule).4, c.requires.room.table_size) in
     let long : length xs ≡ t = c.sum_up.auto.table ∙ length-take-le t old short in
     record {
       ready = c.requires.ready;
