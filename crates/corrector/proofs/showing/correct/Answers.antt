@@ -10,7 +10,7 @@ returns-in-Some g c =
     let ready : Ready F geo.order geo.squares geo.strips geo.checks c.args.codes.now c.args.strip_marks.now c.args.square_marks.now c.args.frame.now
     = ready_by F geo.order geo.squares geo.strips geo.checks c.order-order.result c.squares-squares.result c.args.codes.now c.args.strip_marks.now c.args.square_marks.now c.args.frame.now
     c.count_marked.result c.count_doubtful.result (sym c.order-order.ensures ∙ c.if-order-size.false ∙ c.size.ensures) c.order-order.ensures c.squares-squares.ensures
-    (c.if-codes-size.false ∙ c.frame_size-size.ensures) (c.if-strip_marks-strips.false ∙ c.strips.ensures) (c.if-square_marks-size.false ∙ c.frame_size-size.ensures) (c.if-frame_size.false ∙ c.frame_size-size.ensures)
+    (c.if-codes-size.false ∙ c.frame_size-size.ensures) (c.if-strip_marks-strips.false ∙ c.strips.ensures) (c.if-square_marks-size.false ∙ c.frame_size-size.ensures) (c.if-frame-size.false ∙ c.frame_size-size.ensures)
     c.count_marked.ensures (omega (arith, c.if-count_marked-checks.false, c.checks.ensures)) c.count_doubtful.ensures (omega (arith, c.if-count_doubtful-squares.false, c.squares-squares.ensures)) in
     record {
       frame = granted_hit F geo.order geo.squares geo.strips geo.checks c.args.codes.now c.args.strip_marks.now c.args.square_marks.now c.args.frame.now c.fitting_frame.new.frame
