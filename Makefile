@@ -5,8 +5,7 @@
 
 run:
 	@mkdir -p target
-	@rt check cardmaker > target/run.log 2>&1 || { cat target/run.log; exit 1; }
-	target/bin/cardmaker 2 3 2 < examples/records.txt
+	@cd crates/cardmaker && rt run -- 2 3 2 < ../../examples/records.txt 2> ../../target/run.log || { cat ../../target/run.log; exit 1; }
 
 test:
-	rt ci
+	@tools/gate

@@ -1,9 +1,9 @@
 -- The alphabet of a card: 37 characters, and the code of each.
 --   value_of       the code of a byte, if it is one of 0 to 9 (0 to 9), A to Z (10 to 35) or * (36)
---   letter        the character of a code below 37
+--   letter         the character of a code below 37
 --   character_of   the character of a code, if it is below 37
 --   is_letter      whether a byte is in the alphabet
---   Stands        the two are inverse to each other
+--   Stands         the two are inverse to each other
 -- Assumes nothing.
 use Rattle.std.specs.Prelude.{◌≡◌, ℕ, ◌+◌, ◌-◌, ◌<◌, ◌≤◌, Bool, true, false, cond, ◌&&◌, is_some, Some, None, Option, ◌==◌, nat_le, nat_lt}
 

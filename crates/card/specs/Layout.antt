@@ -1,5 +1,5 @@
 -- How a card lays its frames out in memory: strip after strip, frame after frame, a line to a strip.
---   width        the bytes of a strip: its m characters and a newline, at which nothing ever looks
+--   width         the bytes of a strip: its m characters and a newline, at which nothing ever looks
 --   char_at       where the character of square k of strip s of frame f is
 --   square_of     what a character says: the code that it stands for, else doubtful
 --   strip_gone    none of the m characters from a place on is in the alphabet

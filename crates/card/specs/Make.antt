@@ -1,7 +1,7 @@
 -- How a card is made.
 --   Laid        a meaning is what the layout says of the characters, one by one
---   fresh_byte   the byte of a fresh card at place i: a newline at the end of each strip, a space elsewhere
---   AllOpen    every frame is open
+--   fresh_byte  the byte of a fresh card at place i: a newline at the end of each strip, a space elsewhere
+--   AllOpen     every frame is open
 -- Assumes nothing.
 use Rattle.std.specs.Prelude.{◌≡◌, ℕ, ◌+◌, ◌*◌, ◌%◌, ◌<◌, ◌≤◌, true, false, cond, List, ◌==◌, slice_index}
 use Rattle.medium.specs.Counts.{frame_count, strip_count, square_count}

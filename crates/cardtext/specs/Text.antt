@@ -2,14 +2,14 @@
 --   longest      the bytes of the buffer that takes any frame's line
 --   width        the places of a strip in a line: its m characters and what ends it
 --   line_size    how long the line of a frame is
---   StandsFor   symbols that the characters of a line stand for, one by one
+--   StandsFor    symbols that the characters of a line stand for, one by one
 --   Stranger     a place of a line whose byte is not in the alphabet
 --   Group        a strip's characters from a place on, and what ends it
 --   ending       what ends strip j of n: a space, and a newline after the last
 --   Text         the first t of the n strips of an array, one after the other
 --   no_line      why a line is refused, in this order
 --   Made         the line holds a record, and the buffer begins with the line of its frame; its other bytes are as they were
---   FramesLine  refused, and the buffer is as it was; or made, and the answer is the length of the line
+--   FramesLine   refused, and the buffer is as it was; or made, and the answer is the length of the line
 -- Assumes nothing.
 use Rattle.std.specs.Prelude.{◌≡◌, ℕ, ◌+◌, ◌*◌, ◌<◌, ◌≤◌, cond, ◌≢◌, ◌⊎◌, List, [], ◌∷◌, length, Some, None, Ok, Result, nat_lt, slice_index, slice_index_or}
 use Rattle.refusal.specs.declared.Refusal.{Refusal}

@@ -5,10 +5,10 @@
 --   Columns    the list has, strip by strip, each strip's power sums below m
 --   row_sum    the power sum i, at the strips' locators, of their power sums h
 --   Row        the list has the h-th power sums of the strips
---   RowSums   the list has the row-sums: rows of c
+--   RowSums    the list has the row-sums: rows of c
 --   Scattered  a row is put into the table of strips
 --   Sums       the list has the check sums of an array: m rows of c
---   FilledIn  a list whose strips have the power sums that another list has
+--   FilledIn   a list whose strips have the power sums that another list has
 --   CheckColumns   the power sums that the check strips must have
 --   CheckStrips    check strips that have such power sums
 --   Completed  the frame that begins as an array does

@@ -1,6 +1,6 @@
 -- What each of the four calls on a reel does, from the meaning v of its medium to the meaning w, with the answer r.
 --   Suits      the medium has the strips and squares of the code, and levels enough
---   TooWorn   why what is shown gives no record, in this order
+--   TooWorn    why what is shown gives no record, in this order
 --   Finds      the array xs is found as the frame of a record that fits what is shown, and its counts are answered
 --   Put        the codes xs are written as frame f, and it is then looked whether f shows them: a is answered, or 10
 --   no_store, no_read, no_mend, no_copy   why the call is refused before it writes, in this order

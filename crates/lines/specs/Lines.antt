@@ -1,12 +1,12 @@
 -- The line that a command prints, and the line of an error in the script itself.
 --   figure      a space, and a number in decimal
---   hex_digit    a hexadecimal digit, in upper case
+--   hex_digit   a hexadecimal digit, in upper case
 --   hex         a symbol in two hexadecimal digits
 --   frames      the frame number of a command, or two for a copy
 --   named       the letter of a command, and its frame numbers
 --   answered    the number of an answer, 0 if the command was accepted; for a record that was read also the counts and the symbols
 --   line        the line of a command and its answer
---   error_line   the line of an error in the script
+--   error_line  the line of an error in the script
 --   given       how many symbols an answer gives
 --   no_line     why there is no line: the buffer has not 600 bytes, or the answer gives more symbols than any record has
 --   no_error_line   why there is no line for an error: the buffer has not 600 bytes

@@ -1,5 +1,5 @@
 -- The counts of a medium, as their type gives them: within the limits, whatever its fields hold.
---   keeps         the fields are within the limits
+--   keeps          the fields are within the limits
 --   frame_count    how many frames there are: the field, or 1 where the limits are not kept
 --   strip_count    how many strips in a frame, likewise
 --   square_count   how many squares in a strip, likewise

@@ -1,12 +1,12 @@
 -- What a medium means: its counts, and what stands in each of its frames.
 --   Square       what a square of a strip that is not gone is: doubtful, or clear with a code
 --   Meaning      the counts and levels; for each frame whether it is open, for each strip whether it is gone, and each square
---   look_on       a square as it looks
---   look_at       how strip s, square k of frame f looks
---   look_of       what looking answers
---   open_of       what asking whether a frame is open answers
+--   look_on      a square as it looks
+--   look_at      how strip s, square k of frame f looks
+--   look_of      what looking answers
+--   open_of      what asking whether a frame is open answers
 --   showing      how the squares of a frame look, strip by strip
---   SameShape   the counts and the levels are the same
+--   SameShape    the counts and the levels are the same
 --   Worn         what wear may do: anything that keeps the counts and the levels
 -- Assumes nothing.
 use Rattle.std.specs.Prelude.{◌≡◌, ℕ, ◌+◌, ◌*◌, ◌/◌, ◌%◌, Bool, true, false, cond, List, map, Ok, Err, Result, nat_lt}

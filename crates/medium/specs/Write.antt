@@ -1,5 +1,5 @@
 -- What a writing does.
---   LeftFree   nothing is asked of a value: the label of what the contract leaves to the medium
+--   LeftFree    nothing is asked of a value: the label of what the contract leaves to the medium
 --   Written     w is v with codes written as frame f, strip by strip
 --   no_write    why a writing is refused, in this order
 --   Writes      a writing on v answers r and leaves w

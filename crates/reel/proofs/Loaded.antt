@@ -10,7 +10,7 @@ use Rattle.medium.specs.Meaning.{Meaning}
 use Rattle.kept.specs.CodeOf.{code_of}
 use Rattle.kept.specs.Calls.{Suits, Loaded}
 use Rattle.reel.specs.Calls.{code_on, Ready}
-use Rattle.reel.specs.Loading.{Loads, Laid_out}
+use Rattle.reel.specs.Loading.{Loads, LaidOut}
 
 module _ (F : Ops) (g : Geometry) (v : Meaning) {A : Type 0} (left does : Type 0) (r : Result A Refusal) where
   pub unready : (Ready F g v → ⊥) → r ≡ Err Unsuited → left → Loaded g.order (code_on F g) v left does r
@@ -21,7 +21,7 @@ module _ (F : Ops) (g : Geometry) (v : Meaning) {A : Type 0} (left does : Type 0
   pub ready_does : Ready F g v → does → Loaded g.order (code_on F g) v left does r
   ready_does ready d = inr ((λ n. n ready.order), inr ((λ n. n ready.suits), d))
 
-module _ (F : Ops) (v : Meaning) (q m n c : ℕ) (g : Geometry) (laid : Laid_out q m n c g) where
+module _ (F : Ops) (v : Meaning) (q m n c : ℕ) (g : Geometry) (laid : LaidOut q m n c g) where
   rule : Rule q m n c
   rule = (
     subst (λ t. 1 ≤ t) laid.squares g.rule.0,

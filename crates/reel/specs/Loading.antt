@@ -1,6 +1,6 @@
 -- What a reel is loaded with.
 --   no_load   why these numbers do not load a medium of the meaning v, in this order
---   Laid_out  the geometry has these numbers
+--   LaidOut   the geometry has these numbers
 --   Loads     refused, or the geometry of these numbers is handed out, and a reel of it over the medium is ready
 -- Assumes nothing.
 use Rattle.std.specs.Prelude.{◌≡◌, ℕ, ◌≢◌, List, [], ◌∷◌, Ok, Result}
@@ -22,11 +22,11 @@ no_load F v q m n c =
     ∷ (Unsuited, (Suits (code_of F m n c) v → ⊥))
     ∷ []
 
-pub record Laid_out (q m n c : ℕ) (g : Geometry) : Type 0 where
+pub record LaidOut (q m n c : ℕ) (g : Geometry) : Type 0 where
   pub order : g.order ≡ q
   pub squares : g.squares ≡ m
   pub strips : g.strips ≡ n
   pub checks : g.checks ≡ c
 
 abbrev pub Loads : Ops → Meaning → ℕ → ℕ → ℕ → ℕ → Result Geometry Refusal → Type 0
-Loads F v q m n c r = Outcome (no_load F v q m n c) (Unit {0}) ((g : Geometry) × (r ≡ Ok g) × Laid_out q m n c g × Ready F g v) r
+Loads F v q m n c r = Outcome (no_load F v q m n c) (Unit {0}) ((g : Geometry) × (r ≡ Ok g) × LaidOut q m n c g × Ready F g v) r

@@ -1,5 +1,5 @@
 -- How a script is written: a header, and then one command after another.
---   two_bytes    a number in two bytes, high byte first
+--   two_bytes   a number in two bytes, high byte first
 --   heading     the bytes of a header
 --   Opens       what a header's parser answers: the header and the rest that make up the script, or that the script ends early
 --   letter      the byte that begins a command

@@ -1,6 +1,6 @@
 -- What is proved of the grammar.
 --   ReadOneWay      two commands that begin one script are spelled alike, and leave the same rest
---   RefusedRightly   where a command begins a script, its letter is known and it does not end early
+--   RefusedRightly  where a command begins a script, its letter is known and it does not end early
 -- Assumes nothing.
 use Rattle.std.specs.Prelude.{◌≡◌, ℕ, List}
 use Rattle.refusal.specs.declared.Refusal.{Refusal}

@@ -1,5 +1,5 @@
 -- How a tray lays its frames out in memory: strip after strip, frame after frame.
---   width       the bytes of a strip: its status, its m codes, its m doubts
+--   width        the bytes of a strip: its status, its m codes, its m doubts
 --   code_at      where the code of square k of strip s of frame f is
 --   doubt_at     where its doubt is
 --   square_of    what a code byte and a doubt byte say

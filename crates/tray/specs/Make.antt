@@ -1,6 +1,6 @@
 -- How a tray is made, and how it wears.
 --   Laid        a meaning is what the layout says of the bytes, byte by byte
---   fresh_byte   the byte of a fresh tray at place i: 1 at a status, 0 elsewhere
+--   fresh_byte  the byte of a fresh tray at place i: 1 at a status, 0 elsewhere
 --   Fresh       every frame is open, and every strip gone
 --   no_strip    there is no such strip
 --   no_square   there is no such square

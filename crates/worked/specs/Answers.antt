@@ -1,8 +1,8 @@
 -- What reading a showing answers, over a field, with m squares in a strip, n strips and c check strips.
---   Reads               the frame of the record fits, and these are the counts
+--   Reads             the frame of the record fits, and these are the counts
 --   TooManyGone       more strips are gone than the check strips can make up for
 --   TooManyDoubtful   not too many are gone, and more squares are doubtful than a strip has
---   FitsNone           neither too many strips are gone nor too many squares doubtful, and no record's frame fits
+--   FitsNone          neither too many strips are gone nor too many squares doubtful, and no record's frame fits
 -- Assumes nothing.
 use Rattle.std.specs.Prelude.{◌≡◌, List, ℕ, ◌<◌, ◌≤◌}
 use Rattle.laws.specs.Ops.{Ops}

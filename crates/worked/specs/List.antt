@@ -2,9 +2,9 @@
 -- bytes with one square in a strip, four strips, three of them checks; and two geometries.
 --   CardFrame         the record's frame, as texts of cards
 --   CardReads         the record that a card reads, with the counts of gone strips, doubtful squares and changed squares
---   CardFitsNone     a card that no record's frame fits
+--   CardFitsNone      a card that no record's frame fits
 --   ByteFrame, BytesRead, BytesFitNone   the same for bytes, all squares clear
---   Worked             the list, a line for each
+--   Worked            the list, a line for each
 -- Assumes nothing.
 use Rattle.std.specs.Prelude.{List, [], ◌∷◌, ℕ}
 use Prim.Native.String.{String}
