@@ -1,9 +1,7 @@
 -- What is shown exactly fits, and what fits under a limit fits under a higher one: counting alone. Assumes nothing.
-use Rattle.std.proofs.Common.{◌≡◌, ℕ, zero, suc, ◌+◌, ◌*◌, ◌/◌, ◌<◌, ◌≤◌, Bool, true, false, cond, not, ◌&&◌, ◌||◌, eqb, ltb, List, length, get_or, sym, refl, ap, ◌∙◌, div-lt_iff_lt-mul, arith, lt-ltb, eq-eqb}
-use Rattle.laws.specs.Ops.{Ops}
-use Rattle.algebra.specs.Frames.{IsFrame}
-use Rattle.algebra.specs.Showings.{Showing, reading, count, doubt, differs, silent, Fits}
-use Rattle.algebra.specs.Statements.{ShowsExactly, FitsClean, ExactFits, FitsHigher}
+use Rattle.std.proofs.Common.{◌≡◌, ℕ, zero, suc, ◌*◌, ◌/◌, ◌<◌, Bool, true, false, not, ◌&&◌, ◌||◌, eqb, ltb, get_or, sym, refl, arith, lt-ltb, eq-eqb}
+use Rattle.algebra.specs.Showings.{Showing, reading, count, doubt, differs, silent}
+use Rattle.algebra.specs.Statements.{ExactFits, FitsHigher}
 
 pub count_none : (k : ℕ) (t : ℕ → Bool) → ((i : ℕ) → i < k → t i ≡ false) → count k t ≡ 0
 count_none zero t h = refl

@@ -1,5 +1,5 @@
 -- The codes below q as a field on a type of their own, and what is shown there of sums of codes. Assumes nothing.
-use Rattle.std.proofs.Common.{◌≡◌, ℕ, zero, suc, ◌+◌, ◌*◌, ◌/◌, ◌<◌, ◌≤◌, ◌≢◌, ◌⊎◌, List, [], ◌∷◌, length, get_or, sym, refl, ap, ◌∙◌, inl, inr, add-suc, suc-mul, mul-le-mul_left, arith}
+use Rattle.std.proofs.Common.{◌≡◌, ℕ, zero, suc, ◌+◌, ◌*◌, ◌/◌, ◌<◌, ◌≤◌, ◌≢◌, List, length, get_or, sym, refl, ap, ◌∙◌, inl, inr, mul-le-mul_left, arith}
 use Prim.Native.Nat.{Fin}
 use Rattle.laws.specs.Ops.{Ops, Laws, power as power_f, sum as sum_f}
 use Rattle.std.proofs.lemmas.List.{get_or_past}

@@ -1,8 +1,8 @@
 -- Sums of a frame against products, and the uniqueness of frames, over any field. Assumes nothing.
-use Rattle.std.proofs.Common.{◌≡◌, ℕ, zero, suc, ◌+◌, ◌<◌, ◌≤◌, ◌≢◌, ◌⊎◌, List, [], ◌∷◌, ◌++◌, map, length, sym, refl, ap, ◌∙◌, inl, inr, arith}
+use Rattle.std.proofs.Common.{◌≡◌, ℕ, suc, ◌+◌, ◌<◌, ◌≤◌, ◌≢◌, ◌⊎◌, List, [], ◌∷◌, map, length, sym, ap, ◌∙◌, inl, inr, arith}
 use native.Mathlib.Decide.{ℕ_discrete}
 use lib.ListN.{length-map}
-use Rattle.algebra.proofs.Ring.{Whole, In, add_comm, add_zero, mul_zero, mul_one, zero_mul, sum, sum_cong, sum_zero, sum_add, sum_scale, sum_one, power, diffs, diffs_zero, diffs_nonzero, product_nonzero, no_divisor, equal, add_neg, ring}
+use Rattle.algebra.proofs.Ring.{Whole, In, add_zero, mul_zero, mul_one, zero_mul, sum, sum_cong, sum_add, sum_scale, sum_one, power, diffs, diffs_zero, diffs_nonzero, product_nonzero, no_divisor, equal, add_neg, ring}
 use Rattle.algebra.proofs.Members.{in_dec, in_map, from_map, Without, without}
 
 -- k squares, each with a code α of its strip and a code β of its own

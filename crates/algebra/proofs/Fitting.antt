@@ -1,11 +1,11 @@
 -- Two frames that fit one showing are one frame: where they differ is few strips and few squares more. Assumes nothing.
-use Rattle.std.proofs.Common.{◌≡◌, ℕ, zero, suc, ◌+◌, ◌-◌, ◌*◌, ◌/◌, ◌<◌, ◌≤◌, Bool, true, false, cond, not, ◌&&◌, eqb, ◌≢◌, ◌⊎◌, List, [], ◌∷◌, ◌++◌, length, get_or, take, sym, refl, ap, ◌∙◌, inl, inr, mul-le-mul_right, mod-lt, suc-mul, div-lt_iff_lt-mul, div-add-mod', arith, get_or-take}
+use Rattle.std.proofs.Common.{◌≡◌, ℕ, ◌-◌, ◌*◌, ◌/◌, ◌<◌, ◌≤◌, Bool, true, false, not, ◌&&◌, eqb, ◌⊎◌, List, ◌++◌, length, get_or, take, sym, ap, ◌∙◌, inl, inr, mul-le-mul_right, mod-lt, suc-mul, div-lt_iff_lt-mul, div-add-mod', arith, get_or-take}
 use Prim.Native.Nat.{Fin}
 use Rattle.std.proofs.lemmas.Bool.{cases_Bool, cases_lt, eqb-true}
 use Rattle.std.proofs.lemmas.List.{ext_get_or, length-append}
 use Rattle.laws.specs.Ops.{Ops, Laws}
-use Rattle.algebra.specs.Frames.{IsFrame, FrameOf, record_size}
-use Rattle.algebra.specs.Showings.{Showing, reading, Fits, doubt, silent, count}
+use Rattle.algebra.specs.Frames.{IsFrame, record_size}
+use Rattle.algebra.specs.Showings.{reading, doubt, silent}
 use Rattle.algebra.specs.Statements.{FrameUnique, FitUnique, RecordsApart}
 use Rattle.algebra.proofs.Ring.{In}
 use Rattle.algebra.proofs.Members.{in_left, in_right, from_append}

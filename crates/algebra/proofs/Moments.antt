@@ -1,10 +1,8 @@
 -- Sums of weights against the powers of points, peeled; at most one weighing has given sums. Assumes nothing.
-use Rattle.std.proofs.Common.{◌≡◌, ℕ, zero, suc, ◌+◌, ◌-◌, ◌<◌, ◌≤◌, ◌≢◌, ◌⊎◌, List, [], ◌∷◌, map, length, sym, refl, ap, ◌∙◌, inl, inr, arith}
-use native.Mathlib.Nat as N
-use native.Mathlib.Decide.{ℕ_discrete}
+use Rattle.std.proofs.Common.{◌≡◌, ℕ, zero, suc, ◌+◌, ◌<◌, ◌≤◌, ◌≢◌, ◌⊎◌, List, [], ◌∷◌, map, length, sym, refl, ap, ◌∙◌, inl, inr, arith}
 use lib.ListN.{length-map}
-use Rattle.algebra.proofs.Ring.{Whole, In, add_comm, add_assoc, add_zero, zero_add, mul_zero, mul_one, mul_assoc, zero_mul, neg_mul, mul_comm, sum, sum_cong, sum_zero, sum_add, sum_scale, sum_one, sum_append, sum_swap, power, diffs, diffs_zero, diffs_nonzero, no_divisor, product_nonzero, equal, add_neg, mul_add, neg_zero, ring}
-use Rattle.algebra.proofs.Members.{in_dec, in_map, from_map, Without, without}
+use Rattle.algebra.proofs.Ring.{Whole, In, add_comm, add_assoc, add_zero, zero_add, mul_zero, mul_one, mul_assoc, zero_mul, neg_mul, mul_comm, sum, sum_cong, sum_add, sum_scale, sum_one, power, diffs, diffs_zero, diffs_nonzero, no_divisor, equal, add_neg, neg_zero, ring}
+use Rattle.algebra.proofs.Members.{in_map, from_map, without}
 
 module _ (W : Whole) where
   open W use {C, 𝟘, 𝟙, ◌⊕◌, ◌⊙◌, ⊖◌, inv, mul_inv}

@@ -1,8 +1,8 @@
 -- A sum of powers with weights not all zero has fewer roots than weights. Assumes nothing.
-use Rattle.std.proofs.Common.{◌≡◌, ℕ, zero, suc, ◌+◌, ◌-◌, ◌<◌, ◌≤◌, ◌≢◌, ◌⊎◌, List, [], ◌∷◌, length, sym, refl, ap, ◌∙◌, inl, inr, arith}
+use Rattle.std.proofs.Common.{◌≡◌, ℕ, zero, suc, ◌+◌, ◌-◌, ◌<◌, ◌≤◌, ◌≢◌, List, [], ◌∷◌, length, sym, refl, ap, ◌∙◌, inl, inr, arith}
 use native.Mathlib.Nat as N
 use Rattle.std.proofs.lemmas.Bool.{cases_lt}
-use Rattle.algebra.proofs.Ring.{Whole, In, add_comm, add_assoc, add_zero, zero_add, mul_zero, mul_one, mul_assoc, mul_comm, mul_left_comm, mul_add, zero_mul, sum, sum_cong, sum_scale, power, no_divisor, equal, add_neg, ring}
+use Rattle.algebra.proofs.Ring.{Whole, In, add_comm, add_assoc, add_zero, zero_add, mul_zero, mul_one, mul_comm, mul_left_comm, sum, sum_cong, sum_scale, power, no_divisor, equal, add_neg, ring}
 use Rattle.algebra.proofs.Moments.{sum_first}
 
 module _ (W : Whole) where

@@ -1,12 +1,12 @@
 -- One row: a word is found from its sums, its erased places and few wrong ones. Assumes nothing.
-use Rattle.std.proofs.Common.{◌≡◌, ℕ, zero, suc, ◌+◌, ◌-◌, ◌<◌, ◌≤◌, Bool, true, false, cond, not, ◌&&◌, ◌≢◌, ◌⊎◌, List, [], ◌∷◌, map, length, sym, refl, ap, ◌∙◌, inl, inr, add-one, arith}
+use Rattle.std.proofs.Common.{◌≡◌, ℕ, zero, suc, ◌+◌, ◌<◌, ◌≤◌, Bool, true, false, cond, not, ◌&&◌, ◌≢◌, ◌⊎◌, List, ◌∷◌, map, length, sym, refl, ap, ◌∙◌, inl, inr, add-one, arith}
 use native.Mathlib.Nat as N
 use native.Mathlib.Decide.{ℕ_discrete}
 use lib.ListN.{length-map}
 use Rattle.std.proofs.lemmas.Bool.{cases_Bool}
 use Rattle.algebra.specs.Showings.{count}
-use Rattle.algebra.proofs.Ring.{Whole, In, add_comm, add_assoc, add_zero, zero_add, mul_zero, mul_one, one_mul, mul_assoc, mul_comm, zero_mul, sum, sum_cong, sum_zero, sum_scale, sum_swap, power, no_divisor, product_nonzero, equal, add_neg, ring}
-use Rattle.algebra.proofs.Members.{in_map, from_map}
+use Rattle.algebra.proofs.Ring.{Whole, In, add_zero, mul_zero, mul_one, one_mul, mul_assoc, zero_mul, sum, sum_cong, sum_scale, sum_swap, power, no_divisor, product_nonzero, equal, add_neg, ring}
+use Rattle.algebra.proofs.Members.{from_map}
 use Rattle.algebra.proofs.Moments.{moment, moment_cong, moment_peel, peel, nothing, same}
 use Rattle.algebra.proofs.Stages.{app}
 use Rattle.algebra.proofs.Roots.{value, value_sum, Distinct, few_roots}

@@ -1,13 +1,13 @@
 -- One showing: the doubtful squares one by one, then the strips. Assumes nothing.
-use Rattle.std.proofs.Common.{◌≡◌, ℕ, zero, suc, ◌+◌, ◌-◌, ◌*◌, ◌/◌, ◌%◌, ◌<◌, ◌≤◌, Bool, true, false, ◌≢◌, ◌⊎◌, List, [], ◌∷◌, map, length, sym, refl, ap, ◌∙◌, inl, inr, mod-lt, div-lt_iff_lt-mul, div-add-mod', arith}
+use Rattle.std.proofs.Common.{◌≡◌, ℕ, ◌+◌, ◌*◌, ◌/◌, ◌%◌, ◌<◌, ◌≤◌, Bool, true, false, ◌≢◌, ◌⊎◌, List, [], ◌∷◌, map, length, sym, refl, ap, ◌∙◌, inl, inr, mod-lt, div-lt_iff_lt-mul, div-add-mod', arith}
 use native.Mathlib.Nat as N
 use native.Mathlib.Decide.{ℕ_discrete}
-use lib.Arith.{digits_div, digits_lt}
+use lib.Arith.{digits_div}
 use lib.ListN.{length-map}
 use Rattle.algebra.specs.Showings.{count}
 use Rattle.algebra.proofs.Members.{in_map, from_map}
-use Rattle.algebra.proofs.Ring.{Whole, In, add_comm, add_zero, mul_zero, mul_one, mul_assoc, mul_comm, zero_mul, sum, sum_cong, sum_zero, sum_add, sum_scale, sum_one, sum_rows, power, diffs, diffs_zero, diffs_nonzero, neg_mul, ring}
-use Rattle.algebra.proofs.Moments.{moment, moment_cong, peels, peels_moment, same}
+use Rattle.algebra.proofs.Ring.{Whole, In, mul_zero, mul_one, mul_assoc, mul_comm, zero_mul, sum, sum_cong, sum_zero, sum_add, sum_scale, sum_one, sum_rows, power, diffs, diffs_zero, diffs_nonzero, ring}
+use Rattle.algebra.proofs.Moments.{moment, peels, peels_moment, same}
 use Rattle.algebra.proofs.Listing.{range, length_range, in_range, from_range}
 
 module _ (W : Whole) (n m : ℕ) (α β : ℕ → W.C) where

@@ -1,9 +1,9 @@
 -- A short sequence of weights that takes a sequence to zero, found step by step. Assumes nothing.
-use Rattle.std.proofs.Common.{◌≡◌, ℕ, zero, suc, ◌+◌, ◌-◌, ◌<◌, ◌≤◌, cond, ltb, ◌≢◌, ◌⊎◌, sym, refl, ap, ◌∙◌, inl, inr, arith}
+use Rattle.std.proofs.Common.{◌≡◌, ℕ, suc, ◌+◌, ◌-◌, ◌<◌, ◌≤◌, cond, ltb, ◌≢◌, sym, refl, ap, ◌∙◌, arith}
 use native.Mathlib.Nat as N
 use native.Mathlib.Decide.{ℕ_discrete}
-use Rattle.std.proofs.lemmas.Bool.{le-ltb, lt-ltb, cases_lt}
-use Rattle.algebra.proofs.Ring.{Whole, add_comm, add_zero, zero_add, mul_zero, mul_one, mul_comm, zero_mul, neg_mul, neg_zero, add_neg, sum, sum_cong, sum_zero, sum_add, sum_scale, sum_append, ring}
+use Rattle.std.proofs.lemmas.Bool.{le-ltb, lt-ltb}
+use Rattle.algebra.proofs.Ring.{Whole, add_zero, zero_add, mul_zero, mul_one, mul_comm, zero_mul, neg_mul, neg_zero, add_neg, sum, sum_cong, sum_zero, sum_add, sum_scale, sum_append, ring}
 
 -- f slid up by k places
 abbrev pub shift : (W : Whole) → ℕ → (ℕ → W.C) → ℕ → W.C

@@ -5,7 +5,7 @@
 --   ExactFits       a frame that is shown exactly fits, with all three counts 0
 --   FitsHigher      what fits under a limit fits under every higher one
 -- Assumes nothing.
-use Rattle.std.specs.Prelude.{◌≡◌, ℕ, ◌+◌, ◌*◌, ◌/◌, ◌<◌, ◌≤◌, Bool, true, false, List, slice_index}
+use Rattle.std.specs.Prelude.{◌≡◌, ℕ, ◌*◌, ◌<◌, ◌≤◌, false, List, slice_index}
 use Rattle.laws.specs.Ops.{Ops, Laws}
 use Rattle.geometry.specs.Rule.{Rule}
 use Rattle.algebra.specs.Frames.{IsFrame, FrameOf}

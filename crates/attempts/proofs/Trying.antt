@@ -1,18 +1,18 @@
 -- A candidate is tested: it is every frame that fits and is close, so if it fails the test there is none. Assumes nothing.
-use Rattle.std.proofs.Common.{◌≡◌, ℕ, suc, ◌+◌, ◌*◌, ◌/◌, ◌%◌, ◌<◌, ◌≤◌, Bool, true, false, ◌⊎◌, List, length, get_or, Some, None, Option, sym, refl, ap, ◌∙◌, subst, inl, inr, mod-lt, div-lt_iff_lt-mul, div-add-mod', arith}
+use Rattle.std.proofs.Common.{◌≡◌, ℕ, ◌+◌, ◌*◌, ◌/◌, ◌%◌, ◌<◌, Bool, List, length, get_or, Some, None, Option, sym, ap, ◌∙◌, subst, mod-lt, div-lt_iff_lt-mul, div-add-mod', arith}
 use Rattle.refusal.specs.Codes.{Below}
 use Rattle.laws.specs.Ops.{Ops}
 use Rattle.algebra.specs.Frames.{IsFrame}
 use Rattle.algebra.specs.Showings.{Showing, reading, Fits}
 use Rattle.fitting.specs.declared.counts.Counts.{Counts}
-use Rattle.fitting.specs.Decision.{Counted, Weighed}
+use Rattle.fitting.specs.Decision.{Weighed}
 use Rattle.solver.specs.Sums.{marked}
 use Rattle.frame.specs.Tables.{Sums}
 use Rattle.frame.proofs.Strips.{in_strip}
 use Rattle.correction.specs.Nearing.{Near}
 use Rattle.correction.specs.Tries.{Covers, Close, Missed}
 use Rattle.correction.proofs.Silent.{close_near}
-use Rattle.attempts.specs.Attempts.{Suited, Prepared, Hit, Tried}
+use Rattle.attempts.specs.Attempts.{Suited, Prepared, Tried}
 
 -- a decision by the geometry's own numbers
 pub weighed_moved : (order squares strips checks q m n c : ℕ) → Suited order squares strips checks q m n c → (limit : ℕ) (w : Showing) (xs : List ℕ) (r : Option Counts)

@@ -1,8 +1,8 @@
 -- The alphabet: a code's character reads as that code, and every code that a byte stands for is below 37. By the tests of ranges.
 -- Assumes nothing.
-use Rattle.std.proofs.Common.{◌≡◌, ℕ, ◌+◌, ◌-◌, ◌<◌, ◌≤◌, Bool, true, false, cond, ltb, is_some, Some, None, Option, sym, refl, ap, ◌∙◌, subst, arith, rules}
+use Rattle.std.proofs.Common.{◌≡◌, ℕ, ◌<◌, true, cond, is_some, Some, None, Option, refl, ap, rules}
 use Rattle.std.proofs.lemmas.Bool.{lt-ltb}
-use Rattle.medium.specs.Meaning.{Square, doubtful, clear}
+use Rattle.medium.specs.Meaning.{doubtful, clear}
 use Rattle.medium.specs.Within.{bounded}
 use Rattle.card.specs.Alphabet.{value_of, letter, is_letter}
 use Rattle.card.specs.Layout.{square_of}

@@ -1,13 +1,11 @@
 -- What a card shows: square by square from the characters. Assumes nothing.
-use Rattle.std.proofs.Common.{◌≡◌, ℕ, ◌+◌, ◌*◌, ◌<◌, ◌≤◌, Bool, true, false, cond, not, eqb, ltb, List, length, get_or, Ok, Err, Result, sym, refl, ap, ◌∙◌, subst, arith}
+use Rattle.std.proofs.Common.{◌≡◌, ℕ, ◌+◌, ◌<◌, Bool, true, false, cond, eqb, List, length, get_or, Ok, sym, ◌∙◌, arith}
 use Rattle.medium.specs.Counts.{frame_count, strip_count, square_count}
 use Rattle.medium.specs.declared.counts.Counts.{Counts}
-use Rattle.medium.specs.declared.medium.Look.{Look}
 use Rattle.medium.specs.declared.medium.Look.TheVariants.{Gone}
 use Rattle.medium.specs.Limits.{Limits}
-use Rattle.medium.specs.Meaning.{Square, look_on, look_of}
+use Rattle.medium.specs.Meaning.{look_on, look_of}
 use Rattle.medium.specs.Places.{size_of, strip_at}
-use Rattle.medium.specs.Within.{bounded}
 use Rattle.medium.proofs.Counted.{suited_of}
 use Rattle.medium.proofs.Inside.{within_limits, look_answers}
 use Rattle.card.specs.Alphabet.{value_of}

@@ -1,5 +1,5 @@
 -- What a card shows after a writing: the codes in their frame, and every other frame as it was. Assumes nothing.
-use Rattle.std.proofs.Common.{◌≡◌, ℕ, ◌+◌, ◌*◌, ◌<◌, ◌≤◌, Bool, true, false, cond, not, eqb, ◌≢◌, List, length, get_or, sym, refl, ap, ◌∙◌, subst, arith}
+use Rattle.std.proofs.Common.{◌≡◌, ℕ, ◌+◌, ◌*◌, ◌<◌, ◌≤◌, true, false, cond, not, eqb, ◌≢◌, List, length, get_or, ap, ◌∙◌, arith}
 use Rattle.std.proofs.lemmas.Bool.{lt-ltb, eq-eqb}
 use Rattle.refusal.specs.Codes.{Below}
 use Rattle.medium.specs.Counts.{frame_count, strip_count, square_count}
@@ -12,9 +12,8 @@ use Rattle.medium.proofs.Places.{some_each, row_le}
 use Rattle.medium.proofs.Filling.{beside_apart}
 use Rattle.medium.proofs.Counted.{suited_of}
 use Rattle.medium.proofs.Inside.{within_written}
-use Rattle.card.specs.Alphabet.{value_of, letter, is_letter}
-use Rattle.card.specs.Every.{every}
-use Rattle.card.specs.Layout.{width, char_at, square_of, strip_gone, strip_blank, frame_blank, card_reads, card_shows}
+use Rattle.card.specs.Alphabet.{value_of, is_letter}
+use Rattle.card.specs.Layout.{width, char_at, square_of, strip_gone, strip_blank, card_reads, card_shows}
 use Rattle.card.specs.Stored.{Stored}
 use Rattle.card.proofs.Letters.{letter_value, letter_is}
 use Rattle.card.proofs.Tested.{every_fails, every_same}

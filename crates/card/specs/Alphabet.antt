@@ -5,7 +5,7 @@
 --   is_letter      whether a byte is in the alphabet
 --   Stands         the two are inverse to each other
 -- Assumes nothing.
-use Rattle.std.specs.Prelude.{◌≡◌, ℕ, ◌+◌, ◌-◌, ◌<◌, ◌≤◌, Bool, true, false, cond, ◌&&◌, is_some, Some, None, Option, ◌==◌, nat_le, nat_lt}
+use Rattle.std.specs.Prelude.{◌≡◌, ℕ, ◌+◌, ◌-◌, ◌<◌, Bool, cond, ◌&&◌, is_some, Some, None, Option, ◌==◌, nat_le, nat_lt}
 
 abbrev pub value_of : ℕ → Option ℕ
 value_of b = cond (nat_le 48 b && nat_le b 57) (Some (b - 48)) (cond (nat_le 65 b && nat_le b 90) (Some (b - 65 + 10)) (cond (b == 42) (Some 36) None))

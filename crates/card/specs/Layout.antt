@@ -8,7 +8,7 @@
 --   card_reads    what the bytes say. A memory of the wrong length is no card's: it reads as closed, with every strip gone
 --   card_shows    the meaning of a card over a memory
 -- Assumes nothing.
-use Rattle.std.specs.Prelude.{ℕ, ◌+◌, ◌*◌, Bool, true, false, cond, not, List, length, Some, None, Option, ◌==◌, nat_eq, slice_index}
+use Rattle.std.specs.Prelude.{ℕ, ◌+◌, Bool, true, false, cond, not, List, length, Some, None, Option, ◌==◌, nat_eq, slice_index}
 use Rattle.medium.specs.Counts.{frame_count, strip_count, square_count}
 use Rattle.medium.specs.declared.counts.Counts.{Counts}
 use Rattle.medium.specs.Meaning.{Meaning, Square, doubtful, clear}

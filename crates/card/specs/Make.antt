@@ -3,7 +3,7 @@
 --   fresh_byte  the byte of a fresh card at place i: a newline at the end of each strip, a space elsewhere
 --   AllOpen     every frame is open
 -- Assumes nothing.
-use Rattle.std.specs.Prelude.{◌≡◌, ℕ, ◌+◌, ◌*◌, ◌%◌, ◌<◌, ◌≤◌, true, false, cond, List, ◌==◌, slice_index}
+use Rattle.std.specs.Prelude.{◌≡◌, ℕ, ◌%◌, ◌<◌, true, false, cond, List, ◌==◌, slice_index}
 use Rattle.medium.specs.Counts.{frame_count, strip_count, square_count}
 use Rattle.medium.specs.declared.counts.Counts.{Counts}
 use Rattle.medium.specs.Meaning.{Meaning}

@@ -1,5 +1,5 @@
 -- A geometry over 37 codes is small, by the laws of products. Assumes nothing.
-use Rattle.std.proofs.Common.{◌≡◌, ℕ, ◌+◌, ◌-◌, ◌*◌, ◌<◌, ◌≤◌, sym, ap, ◌∙◌, mul-le-mul_right, mul-le-mul_left, mul-one, mul-add, arith}
+use Rattle.std.proofs.Common.{◌≡◌, ℕ, ◌-◌, ◌*◌, ◌≤◌, mul-le-mul_right, mul-le-mul_left, mul-one, mul-add, arith}
 use Rattle.geometry.specs.Rule.{Rule}
 use Rattle.cardtext.specs.Text.{line_size}
 

@@ -1,5 +1,5 @@
 -- A text that is written strip by strip: each strip leaves those before it as they were, by their places. Assumes nothing.
-use Rattle.std.proofs.Common.{◌≡◌, ℕ, ◌+◌, ◌*◌, ◌<◌, ◌≤◌, List, get_or, refl, ◌∙◌, subst, arith, below_more}
+use Rattle.std.proofs.Common.{◌≡◌, ℕ, ◌+◌, ◌*◌, ◌≤◌, List, refl, ◌∙◌, subst, arith, below_more}
 use Rattle.medium.specs.Memory.{Beside}
 use Rattle.medium.proofs.Places.{row_le}
 use Rattle.cardtext.specs.Text.{Group, Text, width, ending}

@@ -1,16 +1,15 @@
 -- Check sums of lists of codes on the field's own type: they are linear, and one symbol taken out changes them by its term. Assumes nothing.
-use Rattle.std.proofs.Common.{◌≡◌, ℕ, zero, suc, ◌+◌, ◌-◌, ◌*◌, ◌/◌, ◌%◌, ◌<◌, ◌≤◌, ◌≢◌, ◌⊎◌, List, length, get_or, set, sym, refl, ap, ◌∙◌, subst, inl, inr, mod-lt, div-lt_iff_lt-mul, div-add-mod', arith, length-set, get_or-set_other, get_or-set_same}
+use Rattle.std.proofs.Common.{◌≡◌, ℕ, zero, suc, ◌*◌, ◌/◌, ◌%◌, ◌<◌, ◌≢◌, List, length, get_or, set, sym, ap, ◌∙◌, subst, inl, inr, mod-lt, div-lt_iff_lt-mul, div-add-mod', arith, length-set, get_or-set_other, get_or-set_same}
 use Prim.Native.Nat.{Fin}
 use Rattle.std.proofs.lemmas.Bool.{cases_eq}
 use Rattle.refusal.specs.Codes.{Below}
 use Rattle.geometry.specs.Rule.{Rule}
 use Rattle.laws.specs.Ops.{Ops, Laws, less, power as power_f, sum as sum_f}
-use Rattle.algebra.specs.Frames.{IsFrame, check_sum, strip_locator, square_locator}
-use Rattle.algebra.proofs.Ring.{Whole, mul_assoc, mul_comm, zero_add, neg_add, neg_neg, sum, sum_cong, sum_add, sum_scale, power, ring}
-use Rattle.algebra.proofs.Codes.{codes, zero_code, gen, at, at_code, a, sum_val, power_val, check_sum_val}
+use Rattle.algebra.specs.Frames.{check_sum, strip_locator, square_locator}
+use Rattle.algebra.proofs.Ring.{Whole, mul_assoc, zero_add, neg_add, neg_neg, sum_cong, sum_add, sum_scale, power, ring}
+use Rattle.algebra.proofs.Codes.{codes, zero_code, gen, at, a, power_val, check_sum_val}
 use Rattle.algebra.proofs.Squares as Q
 use Rattle.solver.specs.Sums.{Taken}
-use Rattle.frame.specs.Tables.{Sums}
 use Rattle.correction.specs.Nearing.{Held}
 
 module _ (W : Whole) (n m : ℕ) (α β : ℕ → W.C) where

@@ -1,13 +1,12 @@
 -- The list of the doubtful squares, made in their order, and that list with one clear square more. Assumes nothing.
-use Rattle.std.proofs.Common.{◌≡◌, ℕ, zero, suc, ◌+◌, ◌-◌, ◌*◌, ◌/◌, ◌<◌, ◌≤◌, Bool, true, false, not, ◌&&◌, ◌≢◌, ◌⊎◌, List, length, get_or, take, set, sym, refl, ap, ◌∙◌, subst, inl, inr, arith, length-set, get_or-set_other, get_or-take, get_or-set_same}
+use Rattle.std.proofs.Common.{◌≡◌, ℕ, ◌+◌, ◌*◌, ◌/◌, ◌<◌, ◌≤◌, Bool, true, false, not, ◌&&◌, List, length, get_or, take, set, sym, ap, ◌∙◌, subst, inl, inr, arith, length-set, get_or-set_other, get_or-take, get_or-set_same}
 use Rattle.std.proofs.lemmas.List.{length-take-le}
-use Rattle.std.proofs.lemmas.Bool.{cases_eq, cases_Bool, true≢false}
+use Rattle.std.proofs.lemmas.Bool.{cases_eq, true≢false}
 use Rattle.laws.specs.Ops.{Ops}
 use Rattle.algebra.specs.Frames.{square_locator}
 use Rattle.algebra.specs.Showings.{Showing, count, doubt, doubtful_squares}
 use Rattle.solver.proofs.Ranks.{count_room, select}
-use Rattle.frame.specs.Tables.{Powers}
-use Rattle.correction.specs.Nearing.{Ahead, Listed}
+use Rattle.correction.specs.Nearing.{Listed}
 use Rattle.correction.specs.Tries.{clear, Covers, Doubted}
 
 clear_not : (g d : Bool) → (not g && not d) ≡ true → (not g && d) ≡ true → ⊥

@@ -1,17 +1,14 @@
 -- What the row decoder and the peeled sums say on codes, said on the field's own type. Assumes nothing.
-use Rattle.std.proofs.Common.{◌≡◌, ℕ, zero, suc, ◌+◌, ◌*◌, ◌/◌, ◌<◌, ◌≤◌, Bool, true, false, ◌≢◌, ◌⊎◌, List, [], ◌∷◌, map, length, get_or, sym, refl, ap, ◌∙◌, subst, inl, inr, arith}
+use Rattle.std.proofs.Common.{◌≡◌, ℕ, zero, suc, ◌<◌, Bool, List, [], ◌∷◌, map, length, get_or, sym, refl, ap, ◌∙◌, subst, inl, inr, arith}
 use Prim.Native.Nat.{Fin}
 use native.Mathlib.Decide.{ℕ_discrete}
 use Rattle.std.specs.List.{range_with_len}
 use Rattle.std.proofs.lemmas.List.FromFn.{length-map-range_with_len, get_or-map-range_with_len}
-use Rattle.refusal.specs.Codes.{Below}
 use Rattle.geometry.specs.Rule.{Rule}
-use Rattle.laws.specs.Ops.{Ops, Laws, less, power as power_f, sum as sum_f}
-use Rattle.algebra.specs.Frames.{strip_locator}
-use Rattle.algebra.specs.Showings.{count}
-use Rattle.algebra.proofs.Ring.{Whole, In, sum, power, diffs}
-use Rattle.algebra.proofs.Moments.{moment, peels}
-use Rattle.algebra.proofs.Codes.{codes, at, sum_val, power_val}
+use Rattle.laws.specs.Ops.{Ops, Laws, power as power_f, sum as sum_f}
+use Rattle.algebra.proofs.Ring.{In, diffs}
+use Rattle.algebra.proofs.Moments.{peels}
+use Rattle.algebra.proofs.Codes.{codes}
 use Rattle.algebra.proofs.Squares as Q
 use Rattle.solver.specs.Sums.{Word, marked, fold_of}
 use Rattle.solver.proofs.Solving.{moment_val}

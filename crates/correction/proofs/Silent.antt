@@ -1,12 +1,12 @@
 -- A frame that fits with no silent square is close, and one with a silent square is close with that square more. Assumes nothing.
-use Rattle.std.proofs.Common.{◌≡◌, ℕ, zero, suc, ◌+◌, ◌-◌, ◌*◌, ◌/◌, ◌<◌, ◌≤◌, Bool, true, false, cond, not, ◌&&◌, eqb, ◌≢◌, ◌⊎◌, List, length, get_or, sym, refl, ap, ◌∙◌, subst, inl, inr, div-lt_iff_lt-mul, arith}
-use Rattle.std.proofs.lemmas.Bool.{cases_eq, cases_order, cases_Bool, eqb-true, both_ways}
+use Rattle.std.proofs.Common.{◌≡◌, ℕ, zero, suc, ◌+◌, ◌*◌, ◌/◌, ◌<◌, ◌≤◌, Bool, true, false, cond, not, ◌&&◌, eqb, ◌⊎◌, List, get_or, sym, refl, ap, ◌∙◌, inl, inr, div-lt_iff_lt-mul, arith}
+use Rattle.std.proofs.lemmas.Bool.{cases_eq, cases_order, cases_Bool, eqb-true}
 use Rattle.laws.specs.Ops.{Ops}
 use Rattle.algebra.specs.Frames.{IsFrame}
 use Rattle.algebra.specs.Showings.{Showing, count, doubt, silent, doubtful_squares, Fits}
 use Rattle.solver.specs.Sums.{marked}
-use Rattle.solver.proofs.Ranks.{count_room, count_mono, select}
-use Rattle.correction.specs.Nearing.{Near, Ahead}
+use Rattle.solver.proofs.Ranks.{count_room, select}
+use Rattle.correction.specs.Nearing.{Near}
 use Rattle.correction.specs.Tries.{clear, Readout, Masked, Covers, Close, Missed}
 
 pub count_cong : (k : ℕ) (p q : ℕ → Bool) → ((i : ℕ) → i < k → p i ≡ q i) → count k p ≡ count k q

@@ -1,18 +1,18 @@
 -- One doubtful square: the error that the row decoder finds is that of every frame near, unless its strip is gone or wrong. Assumes nothing.
-use Rattle.std.proofs.Common.{◌≡◌, ℕ, zero, suc, ◌+◌, ◌-◌, ◌*◌, ◌/◌, ◌<◌, ◌≤◌, Bool, true, false, cond, ◌≢◌, ◌⊎◌, List, [], ◌∷◌, map, length, get_or, set, sym, refl, ap, ◌∙◌, subst, inl, inr, div-lt_iff_lt-mul, arith, get_or-set_other, get_or-set_same}
+use Rattle.std.proofs.Common.{◌≡◌, ℕ, zero, suc, ◌+◌, ◌-◌, ◌*◌, ◌/◌, ◌<◌, ◌≤◌, Bool, true, false, cond, ◌≢◌, List, [], ◌∷◌, map, length, get_or, set, sym, refl, ap, ◌∙◌, subst, inl, inr, div-lt_iff_lt-mul, arith, get_or-set_other, get_or-set_same}
 use Prim.Native.Nat.{Fin}
 use Rattle.std.proofs.lemmas.Bool.{cases_eq, cases_Bool, true≢false}
 use Rattle.refusal.specs.Codes.{Below}
 use Rattle.geometry.specs.Rule.{Rule}
 use Rattle.laws.specs.Ops.{Ops, Laws, less}
 use Rattle.algebra.specs.Showings.{count}
-use Rattle.algebra.proofs.Ring.{Whole, In, diffs}
+use Rattle.algebra.proofs.Ring.{Whole, In}
 use Rattle.algebra.proofs.Moments.{peels}
 use Rattle.algebra.proofs.Codes.{codes, at, β_apart}
 use Rattle.algebra.proofs.Squares as Q
-use Rattle.solver.specs.Sums.{Word, marked, fold_of}
-use Rattle.correction.specs.Nearing.{Ahead, Agrees, Near, Held, Site, Listed, Decodes, gaps}
-use Rattle.correction.proofs.Checks.{K, loc, loc_val, check_code, check_less, table_below, back}
+use Rattle.solver.specs.Sums.{marked, fold_of}
+use Rattle.correction.specs.Nearing.{Near, Held, Site, Listed, Decodes, gaps}
+use Rattle.correction.proofs.Checks.{loc, loc_val, check_code, check_less, table_below, back}
 use Rattle.correction.proofs.Rows.{run, length_run, in_run, from_run, peels_val, diffs_val, answer}
 
 -- one mark more

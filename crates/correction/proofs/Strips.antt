@@ -1,12 +1,11 @@
 -- No doubtful square left: the rows give each strip's power sums, and these its errors, whichever frame is near. Assumes nothing.
-use Rattle.std.proofs.Common.{◌≡◌, ℕ, zero, suc, ◌+◌, ◌-◌, ◌*◌, ◌/◌, ◌%◌, ◌<◌, ◌≤◌, Bool, true, false, cond, ◌≢◌, ◌⊎◌, List, [], ◌∷◌, map, length, get_or, take, drop, sym, refl, ap, ◌∙◌, subst, inl, inr, mod-lt, div-lt_iff_lt-mul, div-add-mod', arith}
+use Rattle.std.proofs.Common.{◌≡◌, ℕ, ◌+◌, ◌-◌, ◌*◌, ◌/◌, ◌%◌, ◌<◌, Bool, ◌≢◌, List, [], length, get_or, take, drop, sym, ap, ◌∙◌, subst, inl, inr, mod-lt, div-lt_iff_lt-mul, div-add-mod', arith}
 use Prim.Native.Nat.{Fin}
 use Rattle.std.proofs.lemmas.List.{ext_get_or}
 use Rattle.std.proofs.lemmas.Bool.{cases_eq}
 use Rattle.refusal.specs.Codes.{Below}
 use Rattle.laws.specs.Ops.{Ops, Laws, less, power as power_f, sum as sum_f}
 use Rattle.algebra.specs.Frames.{square_locator}
-use Rattle.algebra.proofs.Ring.{Whole, sum, power}
 use Rattle.algebra.proofs.Moments.{moment}
 use Rattle.algebra.proofs.Codes.{codes, at, β_apart, sum_val, power_val}
 use Rattle.algebra.proofs.Squares as Q

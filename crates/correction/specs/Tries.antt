@@ -7,7 +7,7 @@
 --   Close      a frame that an array agrees with but for gone strips, a few wrong ones, the doubtful squares and one square more
 --   Missed     no frame that fits is close, with that one square more
 -- Assumes nothing.
-use Rattle.std.specs.Prelude.{◌≡◌, ℕ, ◌+◌, ◌*◌, ◌/◌, ◌<◌, ◌≤◌, Bool, true, cond, not, ◌&&◌, ◌⊎◌, List, length, slice_index}
+use Rattle.std.specs.Prelude.{◌≡◌, ℕ, ◌+◌, ◌*◌, ◌/◌, ◌<◌, Bool, true, cond, not, ◌&&◌, ◌⊎◌, List, length, slice_index}
 use Rattle.laws.specs.Ops.{Ops}
 use Rattle.algebra.specs.Frames.{IsFrame}
 use Rattle.algebra.specs.Showings.{Showing, count, doubt, doubtful_squares, Fits}

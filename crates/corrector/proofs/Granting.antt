@@ -1,10 +1,10 @@
 -- A hit in the buffer is what correction grants: the frame begins with a record, and no cause of a refusal holds. Assumes nothing.
-use Rattle.std.proofs.Common.{◌≡◌, ℕ, ◌+◌, ◌-◌, ◌*◌, ◌<◌, ◌≤◌, ◌≢◌, ◌⊎◌, List, length, get_or, take, Ok, Result, sym, refl, ap, ◌∙◌, subst, inl, inr, mul-le-mul_right, arith, get_or-take}
+use Rattle.std.proofs.Common.{◌≡◌, ℕ, ◌-◌, ◌*◌, ◌<◌, ◌≤◌, List, length, take, Ok, Result, refl, ap, ◌∙◌, inl, inr, mul-le-mul_right, arith, get_or-take}
 use Rattle.std.proofs.lemmas.List.{length-take-le}
 use Rattle.refusal.specs.declared.Refusal.{Refusal}
 use Rattle.refusal.specs.Outcome.{Outcome}
 use Rattle.laws.specs.Ops.{Ops}
-use Rattle.algebra.specs.Frames.{IsFrame, IsRecord, FrameOf, record_size}
+use Rattle.algebra.specs.Frames.{IsFrame, IsRecord, record_size}
 use Rattle.algebra.specs.Showings.{count, doubtful_squares}
 use Rattle.fitting.specs.declared.counts.Counts.{Counts}
 use Rattle.fitting.specs.Marks.{silent_limit, marked}

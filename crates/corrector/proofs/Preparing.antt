@@ -1,5 +1,5 @@
 -- What is made once for all attempts serves them: locators, marks, what was read, and the doubtful squares. Assumes nothing.
-use Rattle.std.proofs.Common.{◌≡◌, ℕ, suc, ◌+◌, ◌*◌, ◌<◌, ◌≤◌, Bool, true, false, List, length, get_or, take, is_some, Some, None, Option, sym, refl, ap, ◌∙◌, subst, mul-le-mul_right, mul_comm, mul-le-mul_left, arith}
+use Rattle.std.proofs.Common.{◌≡◌, ℕ, ◌*◌, ◌≤◌, Bool, true, false, List, length, get_or, is_some, Some, None, Option, sym, refl, ap, ◌∙◌, subst, mul-le-mul_right, mul_comm, mul-le-mul_left, arith}
 use Rattle.std.proofs.lemmas.List.{ext_get_or}
 use Rattle.std.proofs.lemmas.Bool.{true≢false}
 use Rattle.refusal.specs.Codes.{Below}
@@ -7,15 +7,14 @@ use Rattle.fitting.specs.Marks.{silent_limit}
 use Rattle.fitting.specs.declared.counts.Counts.{Counts}
 use Rattle.geometry.specs.Rule.{Rule}
 use Rattle.laws.specs.Ops.{Ops, Laws}
-use Rattle.algebra.specs.Showings.{Showing, doubtful_squares, gone_strips}
+use Rattle.algebra.specs.Showings.{Showing, doubtful_squares}
 use Rattle.solver.specs.Sums.{marked}
 use Rattle.frame.specs.Tables.{Powers, Sums}
-use Rattle.correction.specs.Nearing.{Site, Held}
 use Rattle.correction.specs.Tries.{Readout, Masked}
 use Rattle.correction.proofs.Silent.{count_cong}
 use Rattle.correction.proofs.Lists.{doubted}
 use Rattle.attempts.specs.Shown.{shows, Ranked, Sized}
-use Rattle.attempts.specs.Attempts.{Suited, Prepared, Noted, Weighable, Summed, Ready, Answered, Settled}
+use Rattle.attempts.specs.Attempts.{Prepared, Noted, Weighable, Summed, Ready, Answered, Settled}
 use Rattle.attempts.proofs.Ranks.{ranked_located}
 
 module _ (F : Ops) (m n c q : ℕ) (q_is : q ≡ F.order) (codes sm qm : List ℕ) (weighable : Weighable F.order m n c (shows F.order codes sm qm)) (strips locators : List ℕ) (size : length strips ≡ n)

@@ -1,11 +1,11 @@
 -- The check strips: their power sums row by row, and that every check sum is then 0. Assumes nothing.
-use Rattle.std.proofs.Common.{◌≡◌, ℕ, zero, suc, ◌+◌, ◌-◌, ◌*◌, ◌<◌, ◌≤◌, ◌≢◌, List, length, get_or, sym, refl, ap, ◌∙◌, subst, inl, inr, arith}
+use Rattle.std.proofs.Common.{◌≡◌, ℕ, ◌+◌, ◌*◌, ◌<◌, ◌≢◌, List, length, get_or, sym, ap, ◌∙◌, subst, inl, inr, arith}
 use Prim.Native.Nat.{Fin}
 use lib.Arith.{digits_mod}
 use Rattle.std.proofs.lemmas.Bool.{cases_eq}
 use Rattle.refusal.specs.Codes.{Below}
-use Rattle.laws.specs.Ops.{Ops, Laws, power, sum}
-use Rattle.solver.specs.Sums.{moment, Solved}
+use Rattle.laws.specs.Ops.{Ops, power}
+use Rattle.solver.specs.Sums.{Solved}
 use Rattle.solver.proofs.Parts.{sum_cong}
 use Rattle.frame.specs.Tables.{row_sum, Scattered, CheckColumns}
 use Rattle.frame.proofs.Strips.{by_place}

@@ -1,5 +1,5 @@
 -- The check sums, strip by strip: the power sums of the strips' power sums. Assumes nothing.
-use Rattle.std.proofs.Common.{◌≡◌, ℕ, zero, suc, ◌+◌, ◌*◌, ◌<◌, ◌≤◌, List, length, get_or, sym, refl, ap, ◌∙◌, subst, arith}
+use Rattle.std.proofs.Common.{◌≡◌, ℕ, zero, suc, ◌+◌, ◌*◌, ◌<◌, List, length, get_or, sym, ap, ◌∙◌, subst, arith}
 use Prim.Native.Nat.{Fin}
 use Rattle.refusal.specs.Codes.{Below}
 use Rattle.laws.specs.Ops.{Ops, Laws, power as power_f, sum as sum_f}

@@ -1,17 +1,15 @@
 -- An array whose check strips make up for the check sums of the strips before them is a frame. Assumes nothing.
-use Rattle.std.proofs.Common.{◌≡◌, ℕ, zero, suc, ◌+◌, ◌-◌, ◌*◌, ◌<◌, ◌≤◌, ◌≢◌, ◌⊎◌, List, length, get_or, sym, refl, ap, ◌∙◌, subst, inl, inr, add_assoc, add-mul, arith, length-append, length-drop, length-take}
-use Prim.Native.Nat.{Fin}
-use borrow.Rule.Slice.PartMut.{put_mid, post_of}
+use Rattle.std.proofs.Common.{◌≡◌, ℕ, zero, suc, ◌+◌, ◌-◌, ◌*◌, ◌<◌, ◌≤◌, List, length, get_or, sym, refl, ap, ◌∙◌, subst, inl, inr, add_assoc, add-mul, arith}
 use Rattle.std.proofs.lemmas.Bool.{cases_lt, cases_order}
 use Rattle.refusal.specs.Codes.{Below}
 use Rattle.laws.specs.Ops.{Ops, Laws, power, sum}
-use Rattle.algebra.specs.Frames.{check_sum, strip_locator, square_locator, IsFrame}
+use Rattle.algebra.specs.Frames.{check_sum, strip_locator, square_locator}
 use Rattle.algebra.proofs.Ring.{sum_append, zero_mul}
 use Rattle.algebra.proofs.Codes.{codes, sum_val}
 use Rattle.solver.specs.Sums.{Apart}
-use Rattle.solver.proofs.Parts.{part, length_part, get_d_part, put_before, put_in, sum_cong}
+use Rattle.solver.proofs.Parts.{part, length_part, get_d_part, sum_cong}
 use Rattle.frame.specs.Tables.{Powers, column, Sums, CheckStrips, Completed}
-use Rattle.frame.proofs.Strips.{in_strip, by_place}
+use Rattle.frame.proofs.Strips.{in_strip}
 use Rattle.frame.proofs.Factors.{power_code}
 use Rattle.frame.proofs.Columns.{check_strips, sum_code}
 

@@ -1,5 +1,5 @@
 -- A power with one factor more. Assumes nothing.
-use Rattle.std.proofs.Common.{◌≡◌, ℕ, zero, suc, ◌<◌, sym, refl, ap, ◌∙◌, arith}
+use Rattle.std.proofs.Common.{◌≡◌, ℕ, zero, suc, ◌<◌, ap, ◌∙◌, arith}
 use Rattle.laws.specs.Ops.{Ops, Laws, power}
 
 module _ (F : Ops) (L : Laws F) where

@@ -1,5 +1,5 @@
 -- A geometry of a field of at most 256 codes is small. Assumes nothing.
-use Rattle.std.proofs.Common.{◌≡◌, ℕ, ◌*◌, ◌<◌, ◌≤◌, sym, refl, ap, ◌∙◌, mul_comm, mul-le-mul_left, mul-one, arith}
+use Rattle.std.proofs.Common.{ℕ, ◌*◌, ◌≤◌, mul_comm, mul-le-mul_left, mul-one, arith}
 use Rattle.geometry.specs.Rule.{Rule}
 
 pub record Small (m n c : ℕ) : Type 0 where

@@ -1,12 +1,12 @@
 -- One strip more is solved for its symbols. Assumes nothing.
-use Rattle.std.proofs.Common.{◌≡◌, ℕ, suc, ◌+◌, ◌-◌, ◌*◌, ◌<◌, ◌≤◌, ◌≢◌, List, length, get_or, sym, refl, ap, ◌∙◌, subst, inl, inr, arith}
+use Rattle.std.proofs.Common.{◌≡◌, ℕ, ◌+◌, ◌-◌, ◌*◌, ◌<◌, ◌≤◌, List, length, get_or, sym, ap, ◌∙◌, subst, inl, inr, arith}
 use borrow.Rule.Slice.PartMut.{put_mid}
 use Rattle.std.proofs.lemmas.Bool.{cases_eq, cases_lt}
 use Rattle.laws.specs.Ops.{Ops, power, sum}
-use Rattle.solver.specs.Sums.{moment, Solved}
+use Rattle.solver.specs.Sums.{Solved}
 use Rattle.solver.proofs.Parts.{part, put_before, put_in, sum_cong}
 use Rattle.frame.specs.Tables.{column, FilledIn}
-use Rattle.frame.proofs.Strips.{strip_end, in_strip, next_strip, part_size, part_at, strips_later, part_moment}
+use Rattle.frame.proofs.Strips.{strip_end, in_strip, next_strip, part_size, part_at, strips_later}
 
 -- the power sums of a strip go by its symbols
 pub column_cong : (F : Ops) (m : ℕ) (points xs ys : List ℕ) (j h : ℕ) → ((κ : ℕ) → κ < m → get_or xs (j * m + κ) 0 ≡ get_or ys (j * m + κ) 0)

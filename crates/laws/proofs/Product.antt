@@ -1,6 +1,6 @@
 -- The laws of the product modulo m, of degree w: it is additive in each factor, so tests at powers of two and at codes give the rest.
 -- Assumes nothing.
-use Rattle.std.proofs.Common.{◌≡◌, ℕ, zero, suc, ◌+◌, ◌-◌, ◌*◌, ◌/◌, ◌%◌, ◌^◌, ◌<◌, Bool, true, false, cond, T, eqb, ltb, sym, refl, ap, ◌∙◌, ap₂, mul_comm, add_comm, suc-add, mul-zero, zero-add, mul-suc, eqb→eq, ltb→lt, pow_pos}
+use Rattle.std.proofs.Common.{◌≡◌, ℕ, zero, suc, ◌+◌, ◌-◌, ◌*◌, ◌/◌, ◌%◌, ◌^◌, ◌<◌, Bool, true, false, cond, T, eqb, ltb, sym, refl, ap, ◌∙◌, ap₂, add_comm, suc-add, mul-zero, zero-add, mul-suc, eqb→eq, ltb→lt, pow_pos}
 use lib.Bits.{bit_xor, xor_lt, xor_shr, xor_mod}
 use Rattle.laws.specs.Binary.{pick, xtime, times, product, raise}
 use Rattle.laws.proofs.Linear.{swap, double, bit_below, pick_add, Additive, at_zero, span}

@@ -1,6 +1,6 @@
 -- A meaning from a reading: it keeps the limits, and a reading that took codes in is a writing. By the tests of places alone.
 -- Assumes nothing.
-use Rattle.std.proofs.Common.{◌≡◌, ℕ, ◌+◌, ◌*◌, ◌<◌, ◌≤◌, Bool, true, false, cond, ltb, ◌≢◌, ◌⊎◌, List, length, get_or, Ok, Err, Result, sym, refl, ap, ◌∙◌, subst, inl, inr, ⊎_elim, arith}
+use Rattle.std.proofs.Common.{◌≡◌, ℕ, ◌+◌, ◌*◌, ◌<◌, ◌≤◌, Bool, true, false, cond, ltb, ◌≢◌, List, get_or, Ok, Err, Result, sym, refl, ap, ◌∙◌, ⊎_elim, arith}
 use mathlib.Core.Path.{fun_ext}
 use Rattle.std.proofs.lemmas.Bool.{lt-ltb, le-ltb, ltb-true, cases_Bool, both_ways}
 use Rattle.refusal.specs.declared.Refusal.{Refusal}
@@ -8,7 +8,7 @@ use Rattle.refusal.specs.declared.Refusal.TheVariants.{NoSuchPlace}
 use Rattle.medium.specs.declared.medium.Look.{Look}
 use Rattle.medium.specs.declared.medium.Look.TheVariants.{Gone}
 use Rattle.medium.specs.Limits.{Suited, Limits}
-use Rattle.medium.specs.Meaning.{Meaning, Square, doubtful, clear, look_on, look_at, look_of}
+use Rattle.medium.specs.Meaning.{Square, doubtful, clear, look_on, look_at, look_of}
 use Rattle.medium.specs.Within.{Reading, bounded, gone_within, square_within, within}
 use Rattle.medium.specs.Write.{Written}
 

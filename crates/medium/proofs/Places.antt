@@ -1,5 +1,5 @@
 -- Bounds on the counts of a medium, and where a strip stands in a memory, from the laws of products. Assumes nothing.
-use Rattle.std.proofs.Common.{◌≡◌, ℕ, zero, suc, ◌+◌, ◌*◌, ◌<◌, ◌≤◌, ◌≢◌, ◌⊎◌, sym, refl, ap, ◌∙◌, subst, inl, inr, ⊎_elim, mul-le-mul_right, suc-mul, mul_comm, mul-le-mul, mul-zero, zero-mul, mul-suc, arith}
+use Rattle.std.proofs.Common.{ℕ, zero, suc, ◌+◌, ◌*◌, ◌<◌, ◌≤◌, ◌≢◌, ◌⊎◌, inl, inr, ⊎_elim, mul-le-mul_right, suc-mul, mul-le-mul, mul-zero, zero-mul, mul-suc, arith}
 use Rattle.std.proofs.lemmas.Bool.{cases_order}
 use Rattle.medium.specs.Limits.{Suited}
 

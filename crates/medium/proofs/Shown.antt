@@ -1,11 +1,10 @@
 -- What a frame shows after a writing, square by square from the writing's own facts. Assumes nothing.
-use Rattle.std.proofs.Common.{◌≡◌, ℕ, ◌+◌, ◌*◌, ◌/◌, ◌%◌, ◌<◌, ◌≤◌, Bool, true, false, cond, ◌≢◌, List, map, length, get_or, sym, refl, ap, ◌∙◌, subst, mod-lt, div-lt_iff_lt-mul, div-add-mod', arith}
+use Rattle.std.proofs.Common.{◌≡◌, ℕ, ◌*◌, ◌/◌, ◌%◌, ◌<◌, ◌≤◌, cond, ◌≢◌, List, map, length, get_or, sym, ap, ◌∙◌, mod-lt, div-lt_iff_lt-mul, div-add-mod', arith}
 use Rattle.std.specs.List.{range_with_len}
 use Rattle.std.proofs.lemmas.List.{length-map, get_or-map}
 use Rattle.std.proofs.lemmas.List.FromFn.{fill_by_all}
-use Rattle.medium.specs.declared.medium.Look.{Look}
-use Rattle.medium.specs.declared.medium.Look.TheVariants.{Gone, Doubtful, Clear}
-use Rattle.medium.specs.Meaning.{Meaning, Square, clear, look_on, look_at, showing, SameShape}
+use Rattle.medium.specs.declared.medium.Look.TheVariants.{Gone, Clear}
+use Rattle.medium.specs.Meaning.{Meaning, look_on, look_at, showing}
 use Rattle.medium.specs.Write.{Written}
 
 -- another frame shows what it did

@@ -1,5 +1,5 @@
 -- What is found in the notes of a look over a frame is found in the frame: the notes agree with what it shows. Assumes nothing.
-use Rattle.std.proofs.Common.{◌≡◌, ℕ, ◌*◌, ◌<◌, ◌≤◌, ◌⊎◌, List, length, Ok, Result, ap, ◌∙◌, subst, inl, inr, ⊎_elim, mul-le-mul_left, mul-one, arith}
+use Rattle.std.proofs.Common.{◌≡◌, ℕ, ◌*◌, ◌<◌, ◌≤◌, List, length, Ok, Result, ap, ◌∙◌, subst, inl, inr, ⊎_elim, mul-le-mul_left, mul-one, arith}
 use Rattle.refusal.specs.declared.Refusal.{Refusal}
 use Rattle.refusal.proofs.Causes.{ok_not_err, settled}
 use Rattle.refusal.specs.Outcome.{Outcome}

@@ -2,7 +2,7 @@
 --   Cause     a refusal, and what has to hold for it
 --   Outcome   by the causes in their order: refused, with what a refusal leaves; or no cause holds, and what is granted
 -- Assumes nothing.
-use Rattle.std.specs.Prelude.{◌≡◌, ◌⊎◌, List, [], ◌∷◌, Ok, Err, Result}
+use Rattle.std.specs.Prelude.{◌≡◌, ◌⊎◌, List, [], ◌∷◌, Err, Result}
 use Rattle.refusal.specs.declared.Refusal.{Refusal}
 
 abbrev pub Cause : Type 1

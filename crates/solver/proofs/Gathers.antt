@@ -1,10 +1,9 @@
 -- One turn of gathering, scattering, choosing and striking. Assumes nothing.
-use Rattle.std.proofs.Common.{◌≡◌, ℕ, zero, suc, ◌+◌, ◌-◌, ◌<◌, ◌≤◌, Bool, true, false, cond, ◌≢◌, List, [], length, get_or, set, sym, refl, ap, ◌∙◌, subst, inl, inr, add-one, arith, get_or-set_other, get_or-set_same}
+use Rattle.std.proofs.Common.{◌≡◌, ℕ, suc, ◌+◌, ◌-◌, ◌<◌, Bool, true, false, cond, ◌≢◌, List, length, get_or, set, sym, ap, ◌∙◌, subst, inl, inr, add-one, arith, get_or-set_other, get_or-set_same}
 use borrow.Rule.Slice.PartMut.{put_mid}
 use Rattle.std.proofs.lemmas.Bool.{cases_eq}
 use Rattle.laws.specs.Ops.{Ops}
 use Rattle.algebra.specs.Showings.{count}
-use Rattle.laws.specs.Ops.{less}
 use Rattle.solver.specs.Sums.{marked, struck, value, Choice, Peeled}
 use Rattle.solver.proofs.Ranks.{count_true, count_false, count_room}
 use Rattle.solver.proofs.Parts.{part, length_part, get_d_part, put_in}

@@ -1,15 +1,14 @@
 -- The stages of the search for weights, on codes. Assumes nothing.
-use Rattle.std.proofs.Common.{◌≡◌, ℕ, zero, suc, ◌+◌, ◌-◌, ◌<◌, ◌≤◌, Bool, true, false, cond, ltb, ◌≢◌, List, [], ◌∷◌, length, get_or, set, replicate, sym, refl, ap, ◌∙◌, inl, inr, add-one, arith, get_or-set_other}
+use Rattle.std.proofs.Common.{◌≡◌, ℕ, suc, ◌+◌, ◌-◌, ◌<◌, ◌≤◌, Bool, true, false, cond, ltb, ◌≢◌, List, get_or, set, replicate, sym, refl, ap, ◌∙◌, inl, inr, add-one, arith, get_or-set_other}
 use Prim.Native.Nat.{Fin}
 use Rattle.solver.proofs.Fills.{get_or_zeros}
 use Rattle.std.proofs.lemmas.Bool.{cases_lt, cases_eq}
-use Rattle.laws.specs.Ops.{Ops, Laws, power as power_f, sum as sum_f}
-use Rattle.algebra.proofs.Ring.{Whole, sum, power}
-use Rattle.algebra.proofs.Codes.{codes, zero_code, sum_val, power_val}
+use Rattle.laws.specs.Ops.{Ops, Laws}
+use Rattle.algebra.proofs.Ring.{sum}
+use Rattle.algebra.proofs.Codes.{codes, zero_code, sum_val}
 use Rattle.algebra.proofs.Stages.{Stage, shift, app, app_short, keep, grow, swap}
 use Rattle.refusal.specs.Codes.{Below}
-use Rattle.laws.specs.Ops.{less}
-use Rattle.solver.specs.Sums.{Filled, combined, scaled, shifted, weighed, Kernel}
+use Rattle.solver.specs.Sums.{Filled, combined, scaled, weighed, Kernel}
 use Rattle.solver.proofs.Solving.{at}
 
 pub cond_val : {q : ℕ} (b : Bool) (x y : Fin q) → (cond b x y).0 ≡ cond b x.0 y.0

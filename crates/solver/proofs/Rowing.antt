@@ -1,24 +1,23 @@
 -- A row on codes: where a word may be wrong, and what it is. Assumes nothing.
-use Rattle.std.proofs.Common.{◌≡◌, ℕ, zero, suc, ◌+◌, ◌-◌, ◌*◌, ◌<◌, ◌≤◌, Bool, true, false, cond, ◌≢◌, ◌⊎◌, List, [], ◌∷◌, length, get_or, sym, refl, ap, ◌∙◌, inl, inr, add-one, arith}
+use Rattle.std.proofs.Common.{◌≡◌, ℕ, zero, suc, ◌+◌, ◌<◌, ◌≤◌, Bool, true, false, cond, ◌≢◌, List, length, get_or, sym, refl, ap, ◌∙◌, inl, inr, add-one, arith}
 use Prim.Native.Nat.{Fin}
 use native.Mathlib.Nat as N
 use Rattle.std.proofs.lemmas.Bool.{cases_Bool}
 use Rattle.laws.specs.Ops.{Ops, Laws, power as power_f, sum as sum_f}
 use Rattle.algebra.specs.Showings.{count}
-use Rattle.algebra.proofs.Ring.{Whole, In, zero_mul}
-use Rattle.algebra.proofs.Codes.{codes, zero_code, sum_val, power_val}
+use Rattle.algebra.proofs.Ring.{zero_mul}
+use Rattle.algebra.proofs.Codes.{codes, zero_code}
 use Rattle.algebra.proofs.Moments as M
-use Rattle.algebra.proofs.Stages.{app}
 use Rattle.algebra.proofs.Roots as R
 use Rattle.algebra.proofs.Rows as Q
 use Rattle.algebra.proofs.Listing.{listed, length_listed, in_listed, from_listed}
 use Rattle.refusal.specs.Codes.{Below}
 use Rattle.laws.specs.Ops.{less}
-use Rattle.solver.specs.Sums.{Apart, marked, struck, value, moment, Choice, Row, Word, Located, Restored, Kernel, Solved, Solvable}
+use Rattle.solver.specs.Sums.{Apart, marked, struck, value, moment, Choice, Row, Word, Located, Restored, Kernel}
 use Rattle.solver.proofs.Solving.{at, at_code, moment_val}
 use Rattle.solver.proofs.Kernels.{cond_val, app_val}
 use Rattle.solver.proofs.Parts.{sum_cong}
-use Rattle.solver.proofs.Ranks.{select, count_le}
+use Rattle.solver.proofs.Ranks.{select}
 
 module _ (F : Ops) (L : Laws F) where
   struck_val : (points : List ℕ) (gone : List Bool) (vs : List ℕ) (bp : Below F.order points) (bv : Below F.order vs) (j i : ℕ)

@@ -1,15 +1,14 @@
 -- One step of solving for weights, on codes. Assumes nothing.
-use Rattle.std.proofs.Common.{◌≡◌, ℕ, zero, suc, ◌+◌, ◌-◌, ◌<◌, ◌≤◌, ◌≢◌, List, [], ◌∷◌, length, get_or, sym, refl, ap, ◌∙◌, inl, inr, arith}
+use Rattle.std.proofs.Common.{◌≡◌, ℕ, zero, suc, ◌<◌, List, length, get_or, sym, ap, ◌∙◌, inl, inr, arith}
 use Prim.Native.Nat.{Fin}
 use Rattle.std.proofs.lemmas.List.{get_or_past}
 use Rattle.std.proofs.lemmas.Bool.{cases_lt}
 use Rattle.laws.specs.Ops.{Ops, Laws, power as power_f, sum as sum_f}
-use Rattle.algebra.proofs.Ring.{Whole, sum, power}
 use Rattle.algebra.proofs.Codes.{codes, zero_code, sum_val, power_val}
 use Rattle.algebra.proofs.Moments.{solved, moment}
 use Rattle.refusal.specs.Codes.{Below}
 use Rattle.laws.specs.Ops.{less}
-use Rattle.solver.specs.Sums.{Apart, Peeled, found}
+use Rattle.solver.specs.Sums.{Apart, Peeled}
 use Rattle.solver.proofs.Parts.{sum_cong}
 
 module _ (F : Ops) (L : Laws F) where

@@ -1,12 +1,12 @@
 -- What a tray shows when it is made: over bytes as they stand, and fresh. Assumes nothing.
-use Rattle.std.proofs.Common.{◌≡◌, ℕ, ◌+◌, ◌*◌, ◌%◌, ◌<◌, ◌≤◌, Bool, true, false, cond, not, eqb, ltb, List, length, get_or, sym, refl, ap, ◌∙◌, subst, arith}
+use Rattle.std.proofs.Common.{◌≡◌, ℕ, ◌+◌, ◌*◌, ◌<◌, Bool, true, false, cond, not, eqb, ltb, List, length, get_or, refl, ap, ◌∙◌, arith}
 use native.Mathlib.Nat.{mul-mod_left}
 use Rattle.std.proofs.lemmas.Bool.{lt-ltb, eq-eqb}
 use Rattle.medium.specs.Counts.{frame_count, strip_count, square_count}
 use Rattle.medium.specs.declared.counts.Counts.{Counts}
-use Rattle.medium.specs.Meaning.{Square, doubtful, clear}
+use Rattle.medium.specs.Meaning.{doubtful, clear}
 use Rattle.medium.specs.Places.{size_of, strip_at}
-use Rattle.medium.specs.Within.{bounded, gone_within}
+use Rattle.medium.specs.Within.{bounded}
 use Rattle.medium.proofs.Places.{strip_inside}
 use Rattle.medium.proofs.Inside.{gone_there, open_there}
 use Rattle.tray.specs.Layout.{width, code_at, doubt_at, square_of, tray_reads, tray_shows}

@@ -1,20 +1,19 @@
 -- What a tray shows: square by square from the bytes, and after a writing. Assumes nothing.
-use Rattle.std.proofs.Common.{◌≡◌, ℕ, ◌+◌, ◌*◌, ◌<◌, ◌≤◌, Bool, true, false, cond, not, eqb, ltb, ◌≢◌, ◌⊎◌, List, length, get_or, Ok, Err, Result, sym, refl, ap, ◌∙◌, subst, inl, inr, ⊎_elim, arith}
+use Rattle.std.proofs.Common.{◌≡◌, ℕ, ◌+◌, ◌*◌, ◌<◌, true, false, cond, not, eqb, List, length, get_or, Ok, sym, ap, ◌∙◌, arith}
 use Rattle.std.proofs.lemmas.Bool.{lt-ltb, eq-eqb}
 use Rattle.refusal.specs.Codes.{Below}
 use Rattle.medium.specs.Counts.{frame_count, strip_count, square_count}
 use Rattle.medium.specs.declared.counts.Counts.{Counts}
-use Rattle.medium.specs.declared.medium.Look.{Look}
 use Rattle.medium.specs.declared.medium.Look.TheVariants.{Gone}
 use Rattle.medium.specs.Limits.{Limits}
-use Rattle.medium.specs.Meaning.{Meaning, Square, doubtful, clear, look_on, look_of}
+use Rattle.medium.specs.Meaning.{doubtful, clear, look_on, look_of}
 use Rattle.medium.specs.Places.{size_of, strip_at}
-use Rattle.medium.specs.Within.{Reading, bounded, within}
+use Rattle.medium.specs.Within.{bounded}
 use Rattle.medium.specs.Write.{Written}
 use Rattle.medium.proofs.Places.{row_le}
 use Rattle.medium.proofs.Filling.{beside_apart}
 use Rattle.medium.proofs.Counted.{suited_of}
-use Rattle.medium.proofs.Inside.{within_limits, within_written, look_answers, open_there, SameFrame}
+use Rattle.medium.proofs.Inside.{within_limits, within_written, look_answers}
 use Rattle.tray.specs.Layout.{width, code_at, doubt_at, square_of, tray_reads, tray_shows}
 use Rattle.tray.specs.Stored.{Stored}
 

@@ -1,5 +1,5 @@
 -- A strip of a tray as it is written: the bytes that are set, and those that are left, by their places. Assumes nothing.
-use Rattle.std.proofs.Common.{◌≡◌, ℕ, suc, ◌+◌, ◌*◌, ◌<◌, ◌≤◌, ◌≢◌, List, length, get_or, set, ap, ◌∙◌, subst, arith, length-set, get_or-set_other, get_or-set_same}
+use Rattle.std.proofs.Common.{◌≡◌, ℕ, ◌+◌, ◌*◌, ◌<◌, ◌≤◌, ◌≢◌, List, length, get_or, set, ap, ◌∙◌, subst, arith, length-set, get_or-set_other, get_or-set_same}
 use Rattle.medium.specs.Memory.{Beside, Filled}
 use Rattle.medium.specs.Places.{strip_at}
 use Rattle.medium.proofs.Filling.{beside_moved, filled_more}

@@ -6,7 +6,7 @@
 --   tray_reads   what the bytes say. A memory of the wrong length is no tray's: it reads as closed, with every strip gone
 --   tray_shows   the meaning of a tray over a memory
 -- Assumes nothing.
-use Rattle.std.specs.Prelude.{ℕ, ◌+◌, ◌*◌, Bool, true, false, cond, not, List, length, ◌==◌, slice_index}
+use Rattle.std.specs.Prelude.{ℕ, ◌+◌, ◌*◌, true, cond, not, List, length, ◌==◌, slice_index}
 use Rattle.medium.specs.Counts.{frame_count, strip_count, square_count}
 use Rattle.medium.specs.declared.counts.Counts.{Counts}
 use Rattle.medium.specs.Meaning.{Meaning, Square, doubtful, clear}

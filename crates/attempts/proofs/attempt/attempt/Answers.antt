@@ -1,4 +1,4 @@
-use Rattle.std.proofs.Common.{◌≡◌, ℕ, ◌*◌, length, sym, refl, ap, ◌∙◌, subst, arith}
+use Rattle.std.proofs.Common.{ℕ, length, refl, ◌∙◌, subst, arith}
 use Rattle.fitting.specs.Marks.{silent_limit, shown_by}
 use Rattle.frame.specs.Tables.{Sums}
 use Rattle.attempts.specs.Shown.{shows}

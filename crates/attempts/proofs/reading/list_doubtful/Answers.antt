@@ -1,5 +1,5 @@
-use Rattle.std.proofs.Common.{◌≡◌, ℕ, ◌+◌, ◌*◌, ◌<◌, ◌≤◌, true, false, length, get_or, sym, refl, ap, ◌∙◌, subst, div-lt_iff_lt-mul, arith}
-use Rattle.algebra.specs.Showings.{Showing, doubt}
+use Rattle.std.proofs.Common.{◌≡◌, ◌*◌, ◌<◌, true, false, length, get_or, sym, refl, ◌∙◌, div-lt_iff_lt-mul, arith}
+use Rattle.algebra.specs.Showings.{doubt}
 use Rattle.solver.proofs.Ranks.{count_room}
 use Rattle.attempts.specs.Shown.{shows}
 use Rattle.attempts.proofs.Ranks.{count_more, count_same, ranked_more, ranked_same}

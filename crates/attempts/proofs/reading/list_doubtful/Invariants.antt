@@ -1,4 +1,4 @@
-use Rattle.std.proofs.Common.{◌≡◌, ℕ, ◌<◌, get_or}
+use Rattle.std.proofs.Common.{◌≡◌, get_or}
 use Rattle.algebra.specs.Showings.{count, doubt}
 use Rattle.attempts.specs.Shown.{shows, Ranked}
 use Rattle.attempts.proofs.reading.list_doubtful.Given as goal

@@ -1,4 +1,4 @@
-use Rattle.std.proofs.Common.{◌*◌, ◌<◌, div-lt_iff_lt-mul, arith}
+use Rattle.std.proofs.Common.{div-lt_iff_lt-mul, arith}
 use Rattle.attempts.proofs.reading.read_out.Goals as goal
 
 pub bounds-strip_marks-p : goal.bounds-strip_marks-p

@@ -1,4 +1,4 @@
-use Rattle.std.proofs.Common.{◌≡◌, ℕ, ◌+◌, ◌*◌, ◌≤◌, length, take, sym, refl, ap, ◌∙◌, subst, inl, inr, arith}
+use Rattle.std.proofs.Common.{length, sym, ◌∙◌, inl, inr, arith}
 use Rattle.fitting.specs.Marks.{silent_limit}
 use Rattle.attempts.specs.Shown.{shows}
 use Rattle.attempts.proofs.Noting.{noted_listed, answered_early, answered_late}

@@ -1,4 +1,4 @@
-use Rattle.std.proofs.Common.{◌≡◌, ℕ, ◌+◌, ◌*◌, length, take, set, sym, refl, ap, ◌∙◌, subst, arith}
+use Rattle.std.proofs.Common.{◌+◌, length, take, set}
 use Rattle.fitting.specs.Marks.{silent_limit}
 use Rattle.attempts.specs.Shown.{shows}
 use Rattle.attempts.proofs.Noting.{tried_at, square_listed, square_covers, square_noted}

@@ -1,4 +1,3 @@
-use mathlib.Core.Path.{◌≡◌, ap, ◌∙◌}
 use native.Mathlib.Numerals.{add-one}
 use Rattle.candidates.proofs.erasures.gap.Goals as goal
 

@@ -1,4 +1,4 @@
-use Rattle.std.proofs.Common.{◌≡◌, ℕ, ◌+◌, ◌<◌, get_or, set, ◌∙◌, arith, length-set, get_or-set_other, get_or-set_same, below_more}
+use Rattle.std.proofs.Common.{◌+◌, ◌∙◌, arith, length-set, get_or-set_other, get_or-set_same, below_more}
 use Rattle.card.proofs.store.store_strip.Goals as goal
 
 pub letter_of-requires : goal.letter_of-requires

@@ -1,5 +1,5 @@
-use Rattle.std.proofs.Common.{◌≡◌, Bool, true, false, cond, Ok, sym, refl, ap, ◌∙◌, arith}
-use Rattle.std.proofs.lemmas.Bool.{eqb-true, both_ways}
+use Rattle.std.proofs.Common.{◌≡◌, Bool, true, false, cond, Ok, sym, refl, ◌∙◌, arith}
+use Rattle.std.proofs.lemmas.Bool.{eqb-true}
 use Rattle.medium.specs.Counts.{frame_count, strip_count, square_count}
 use Rattle.medium.proofs.Inside.{open_there}
 use Rattle.medium.proofs.Writing.{done}

@@ -1,4 +1,4 @@
-use Rattle.std.proofs.Common.{◌≡◌, ◌+◌, length, sym, ap, ◌∙◌, arith, rules, below_more}
+use Rattle.std.proofs.Common.{◌≡◌, ◌+◌, length, ap, ◌∙◌, arith, rules, below_more}
 use Rattle.cardtext.specs.Numerals.{Numeral, digits_value}
 use Rattle.cardtext.proofs.Digits.{value_more, value_grows}
 use Rattle.cardtext.proofs.number.parse_number.Goals as goal

@@ -1,6 +1,5 @@
-use Rattle.std.proofs.Common.{◌≡◌, ℕ, ◌+◌, ◌*◌, ◌≤◌, ap, ◌∙◌, subst, arith}
-use Rattle.medium.specs.Memory.{Beside}
-use Rattle.cardtext.specs.Text.{Text, line_size}
+use Rattle.std.proofs.Common.{◌≡◌, ◌+◌, ◌*◌, ap, ◌∙◌, arith}
+use Rattle.cardtext.specs.Text.{line_size}
 use Rattle.cardtext.proofs.Encoding.{encoded}
 use Rattle.cardtext.proofs.Sizes.{small}
 use Rattle.cardtext.proofs.record.write_frame.Goals as goal

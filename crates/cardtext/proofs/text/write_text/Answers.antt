@@ -1,4 +1,4 @@
-use Rattle.std.proofs.Common.{◌+◌, ◌*◌, ◌<◌, ◌≤◌, arith}
+use Rattle.std.proofs.Common.{arith}
 use Rattle.medium.proofs.Places.{row_le}
 use Rattle.cardtext.specs.Text.{width}
 use Rattle.cardtext.proofs.Strips.{beside_none, text_more}

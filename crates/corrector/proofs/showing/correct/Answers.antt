@@ -1,4 +1,4 @@
-use Rattle.std.proofs.Common.{◌≡◌, ℕ, ◌*◌, ◌<◌, ◌≤◌, length, Ok, sym, refl, ap, ◌∙◌, subst, arith}
+use Rattle.std.proofs.Common.{Ok, sym, refl, ◌∙◌, arith}
 use Rattle.attempts.specs.Attempts.{Ready}
 use Rattle.corrector.proofs.Granting.{granted_hit, ready_by}
 use Rattle.corrector.proofs.showing.correct.Goals as goal

@@ -1,4 +1,4 @@
-use Rattle.std.proofs.Common.{◌≡◌, ℕ, ◌*◌, length, sym, refl, ap, ◌∙◌, subst, arith}
+use Rattle.std.proofs.Common.{ℕ, length, ◌∙◌, subst}
 use Rattle.frame.specs.Tables.{Sums}
 use Rattle.correction.specs.Tries.{Readout}
 use Rattle.attempts.specs.Shown.{shows}

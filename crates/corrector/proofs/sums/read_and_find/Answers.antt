@@ -1,4 +1,4 @@
-use Rattle.std.proofs.Common.{◌≡◌, ℕ, ◌+◌, ◌*◌, ◌≤◌, length, sym, refl, ap, ◌∙◌, subst, arith}
+use Rattle.std.proofs.Common.{◌≡◌, ℕ, ◌*◌, length, sym, ◌∙◌, subst}
 use Rattle.fitting.specs.Marks.{silent_limit}
 use Rattle.attempts.specs.Shown.{shows}
 use Rattle.attempts.specs.Rooms.{Bench}

@@ -1,6 +1,4 @@
 use Rattle.std.proofs.Common.{refl, arith}
-use Rattle.laws.specs.Instances.{bytes}
-use Rattle.laws.specs.Logarithms.{Log}
 use Rattle.laws.proofs.ByTables.{logarithm_at, log_most}
 use Rattle.laws.proofs.Fields.{byte_logs}
 use Rattle.field.proofs.logs.log.Goals as goal

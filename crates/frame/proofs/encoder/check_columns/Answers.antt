@@ -1,4 +1,4 @@
-use Rattle.std.proofs.Common.{◌≡◌, ℕ, suc, ◌+◌, ◌-◌, ◌*◌, ◌<◌, ◌≤◌, length, get_or, sym, refl, ap, ◌∙◌, subst, arith}
+use Rattle.std.proofs.Common.{ℕ, length, ap, ◌∙◌, subst, arith}
 use Rattle.frame.proofs.Strips.{strip_end, part_size, part_at}
 use Rattle.frame.proofs.Checks.{check_columns_none, check_columns_more}
 use Rattle.frame.proofs.encoder.check_columns.Goals as goal

@@ -1,7 +1,6 @@
-use Rattle.std.proofs.Common.{◌≡◌, ◌*◌, ◌⊎◌, length, sym, refl, ap, ◌∙◌, inl, inr, ⊎_elim, arith}
+use Rattle.std.proofs.Common.{◌≡◌, refl, inr, ⊎_elim, arith}
 use Rattle.geometry.specs.Rule.{Rule}
 use Rattle.refusal.specs.Codes.{Below}
-use Rattle.algebra.specs.Frames.{record_size}
 use Rattle.algebra.proofs.Fitting.{frame_unique}
 use Rattle.frame.proofs.Begins.{moved}
 use Rattle.frame.proofs.encoder.encode.Goals as goal

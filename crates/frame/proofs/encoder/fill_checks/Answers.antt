@@ -1,4 +1,4 @@
-use Rattle.std.proofs.Common.{◌≡◌, ℕ, ◌+◌, ◌*◌, length, get_or, sym, refl, ap, ◌∙◌, arith}
+use Rattle.std.proofs.Common.{◌≡◌, ◌+◌, ◌*◌, length, get_or, ap, ◌∙◌, arith}
 use Rattle.laws.specs.Ops.{power}
 use Rattle.solver.proofs.Parts.{sum_cong}
 use Rattle.frame.specs.Tables.{column}

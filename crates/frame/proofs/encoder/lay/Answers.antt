@@ -1,6 +1,4 @@
-use Rattle.std.proofs.Common.{◌≡◌, ℕ, ◌+◌, ◌-◌, ◌*◌, ◌<◌, ◌≤◌, length, get_or, sym, refl, ap, ◌∙◌, subst, arith}
-use Rattle.std.proofs.lemmas.List.{get_or_past}
-use Rattle.laws.specs.Ops.{power}
+use Rattle.std.proofs.Common.{◌≡◌, ℕ, ◌-◌, ◌*◌, length, ◌∙◌, subst, arith}
 use Rattle.frame.specs.Tables.{Powers}
 use Rattle.frame.proofs.Begins.{begun_below, begun_blank, begins}
 use Rattle.frame.proofs.encoder.lay.Goals as goal

@@ -1,5 +1,5 @@
 use Rattle.std.proofs.Common.{arith}
-use Rattle.frame.proofs.Sizes.{Small, small}
+use Rattle.frame.proofs.Sizes.{small}
 use Rattle.frame.proofs.encoder.write_in.Goals as goal
 
 pub split_at_mut-strips-requires : goal.split_at_mut-strips-requires

@@ -1,9 +1,9 @@
-use Rattle.std.proofs.Common.{◌≡◌, ℕ, suc, ◌<◌, length, get_or, sym, refl, ap, ◌∙◌, add-one, arith}
-use Rattle.laws.specs.Ops.{power, sum}
+use Rattle.std.proofs.Common.{length, get_or, sym, ap, ◌∙◌, add-one, arith}
+use Rattle.laws.specs.Ops.{power}
 use Rattle.solver.specs.Sums.{moment}
 use Rattle.solver.proofs.Parts.{sum_cong}
 use Rattle.frame.proofs.Filling.{set_before}
-use Rattle.frame.proofs.Factors.{raise, power_code}
+use Rattle.frame.proofs.Factors.{raise}
 use Rattle.frame.proofs.power_sums.moments.Goals as goal
 
 pub loop-h-init : goal.loop-h-init

@@ -1,4 +1,4 @@
-use Rattle.std.proofs.Common.{◌≡◌, sym, refl, ap, ◌∙◌, add-one, arith}
+use Rattle.std.proofs.Common.{ap, ◌∙◌, add-one, arith}
 use Rattle.laws.specs.Ops.{power}
 use Rattle.frame.proofs.Filling.{set_before}
 use Rattle.frame.proofs.power_sums.powers.Goals as goal

@@ -1,5 +1,4 @@
-use Rattle.std.proofs.Common.{◌≡◌, ◌<◌, get_or, sym, refl, ap, ◌∙◌, add-one, arith}
-use Rattle.laws.specs.Ops.{sum}
+use Rattle.std.proofs.Common.{get_or, add-one, arith}
 use Rattle.frame.proofs.Filling.{set_before, set_after}
 use Rattle.frame.proofs.power_sums.turn.Goals as goal
 

@@ -1,4 +1,4 @@
-use Rattle.std.proofs.Common.{◌≡◌, ◌*◌, length, ◌∙◌, arith}
+use Rattle.std.proofs.Common.{◌≡◌, ◌*◌, length, ◌∙◌}
 use Rattle.frame.proofs.Columns.{rows_check, columns_below, powers_below}
 use Rattle.frame.proofs.syndromes.check_sums.Goals as goal
 

@@ -1,6 +1,6 @@
-use Rattle.std.proofs.Common.{◌≡◌, ℕ, suc, ◌+◌, ◌-◌, ◌*◌, ◌<◌, ◌≤◌, List, length, get_or, sym, refl, ap, ◌∙◌, subst, arith}
+use Rattle.std.proofs.Common.{◌≡◌, ◌+◌, ◌*◌, length, get_or, ap, ◌∙◌, arith}
 use Rattle.laws.specs.Ops.{power}
-use Rattle.solver.proofs.Parts.{part, sum_cong}
+use Rattle.solver.proofs.Parts.{sum_cong}
 use Rattle.frame.specs.Tables.{row_sum}
 use Rattle.frame.proofs.Strips.{strip_end, in_strip, part_size, strips_more}
 use Rattle.frame.proofs.syndromes.sum_rows.Goals as goal

@@ -1,4 +1,4 @@
-use Rattle.std.proofs.Common.{ℕ, ◌+◌, ◌*◌, ◌<◌, length, get_or, refl, mul-le-mul_right, arith}
+use Rattle.std.proofs.Common.{◌+◌, ◌*◌, length, get_or, refl, arith}
 use Rattle.frame.proofs.Filling.{set_before}
 use Rattle.frame.proofs.Strips.{in_strip}
 use Rattle.frame.proofs.table.gather_row.Goals as goal

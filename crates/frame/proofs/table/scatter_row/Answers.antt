@@ -1,4 +1,4 @@
-use Rattle.std.proofs.Common.{◌+◌, ◌*◌, ◌<◌, length, get_or, refl, arith}
+use Rattle.std.proofs.Common.{length, refl, arith}
 use Rattle.frame.proofs.Strips.{in_strip}
 use Rattle.frame.proofs.Rows.{scatter_none, scatter_more}
 use Rattle.frame.proofs.table.scatter_row.Goals as goal

@@ -1,4 +1,4 @@
-use Rattle.std.proofs.Common.{◌≡◌, ℕ, ◌+◌, ◌-◌, ◌*◌, ◌<◌, ◌≤◌, length, sym, refl, ap, ◌∙◌, zero-mul, arith}
+use Rattle.std.proofs.Common.{◌≡◌, ◌+◌, ◌*◌, length, sym, refl, ◌∙◌, zero-mul, arith}
 use Rattle.frame.proofs.Strips.{strip_end, in_strip, part_size, part_at, part_below, part_apart}
 use Rattle.frame.proofs.Solves.{strips_solved}
 use Rattle.frame.proofs.table.solve_strips.Goals as goal

@@ -1,5 +1,5 @@
-use Rattle.std.proofs.Common.{◌≡◌, sym, refl, ap, ◌∙◌, arith, length-set}
-use Rattle.solver.specs.Sums.{Filled, combined, scaled}
+use Rattle.std.proofs.Common.{refl, arith, length-set}
+use Rattle.solver.specs.Sums.{combined}
 use Rattle.solver.proofs.Fills.{fill_more, fill_none, fill_end}
 use Rattle.solver.proofs.key_equation.combine.Goals as goal
 

@@ -1,4 +1,4 @@
-use Rattle.std.proofs.Common.{◌≡◌, sym, refl, ap, ◌∙◌, arith}
+use Rattle.std.proofs.Common.{arith}
 use Rattle.solver.proofs.Kernels.{start_codes, keep_codes, grow_codes, swap_codes, found_kernel}
 use Rattle.solver.proofs.key_equation.kernel.Goals as goal
 

@@ -1,4 +1,4 @@
-use Rattle.std.proofs.Common.{◌≡◌, ◌+◌, ◌-◌, ◌*◌, length}
+use Rattle.std.proofs.Common.{◌+◌, ◌-◌, ◌*◌}
 use Rattle.solver.proofs.Kernels.{Found}
 use Rattle.solver.proofs.key_equation.kernel.Given as goal
 

@@ -1,4 +1,4 @@
-use Rattle.std.proofs.Common.{◌≡◌, sym, refl, ap, ◌∙◌, add-one, arith}
+use Rattle.std.proofs.Common.{◌≡◌, ap, ◌∙◌, add-one, arith}
 use Rattle.solver.specs.Sums.{weighed}
 use Rattle.solver.proofs.key_equation.weigh.Goals as goal
 

@@ -1,7 +1,4 @@
-use Rattle.std.proofs.Common.{◌≡◌, ℕ, suc, ◌+◌, ◌-◌, ◌<◌, ◌≤◌, true, false, length, get_or, sym, refl, ap, ◌∙◌, arith}
-use Rattle.algebra.specs.Showings.{count}
-use Rattle.solver.specs.Sums.{marked}
-use Rattle.solver.proofs.Ranks.{count_room, count_le}
+use Rattle.std.proofs.Common.{◌≡◌, ℕ, true, false, sym, ◌∙◌, arith}
 use Rattle.solver.proofs.Gathers.{choice_more}
 use Rattle.solver.proofs.row.choose.Goals as goal
 use Rattle.solver.proofs.row.choose.Goals.{then-gone-j, else-gone-j+then-evaluate-eq0, else-gone-j+else-evaluate-eq0}

@@ -1,4 +1,4 @@
-use Rattle.std.proofs.Common.{◌≡◌, ℕ, ◌<◌, length, get_or}
+use Rattle.std.proofs.Common.{◌≡◌, ℕ, ◌<◌, get_or}
 use Rattle.solver.proofs.row.copy.Given as goal
 
 abbrev pub invariant-loop-u : goal.invariant-loop-u

@@ -1,6 +1,5 @@
-use Rattle.std.proofs.Common.{◌≡◌, ℕ, ◌+◌, ◌<◌, ◌≤◌, Bool, List, ◌++◌, length, get_or, take, drop, sym, refl, ap, ◌∙◌, arith, length-take}
+use Rattle.std.proofs.Common.{◌≡◌, ◌++◌, length, take, drop, arith, length-take}
 use Rattle.std.proofs.lemmas.List.{take_at}
-use Rattle.solver.specs.Sums.{marked}
 use Rattle.solver.proofs.Rowing.{final_codes}
 use Rattle.solver.proofs.row.correct.Goals as goal
 

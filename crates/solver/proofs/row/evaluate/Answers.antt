@@ -1,5 +1,4 @@
-use Rattle.std.proofs.Common.{◌≡◌, ℕ, suc, ◌-◌, sym, refl, ap, ◌∙◌, arith}
-use Rattle.solver.specs.Sums.{value}
+use Rattle.std.proofs.Common.{◌≡◌, suc, ◌-◌, arith}
 use Rattle.solver.proofs.row.evaluate.Goals as goal
 
 pub loop-u-preserved : goal.loop-u-preserved

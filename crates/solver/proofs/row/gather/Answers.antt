@@ -1,7 +1,6 @@
-use Rattle.std.proofs.Common.{◌≡◌, ℕ, suc, ◌+◌, ◌-◌, ◌<◌, ◌≤◌, length, get_or, sym, refl, ap, ◌∙◌, arith}
-use Rattle.algebra.specs.Showings.{count}
+use Rattle.std.proofs.Common.{length, arith}
 use Rattle.solver.specs.Sums.{marked}
-use Rattle.solver.proofs.Ranks.{count_room, count_le}
+use Rattle.solver.proofs.Ranks.{count_room}
 use Rattle.solver.proofs.Gathers.{gather_true, gather_false}
 use Rattle.solver.proofs.row.gather.Goals as goal
 use Rattle.solver.proofs.row.gather.Goals.{then-mask-j, else-mask-j}

@@ -1,4 +1,4 @@
-use Rattle.std.proofs.Common.{◌≡◌, ℕ, ◌<◌, true, length, get_or}
+use Rattle.std.proofs.Common.{◌≡◌, ℕ, ◌<◌, true, get_or}
 use Rattle.algebra.specs.Showings.{count}
 use Rattle.solver.specs.Sums.{marked}
 use Rattle.solver.proofs.row.gather.Given as goal

@@ -1,7 +1,6 @@
-use Rattle.std.proofs.Common.{◌≡◌, ℕ, suc, ◌+◌, ◌-◌, ◌*◌, ◌/◌, ◌<◌, ◌≤◌, List, ◌++◌, length, get_or, take, drop, sym, refl, ap, ◌∙◌, add-one, arith, get_or-take}
-use Rattle.algebra.specs.Showings.{count}
+use Rattle.std.proofs.Common.{◌≡◌, ℕ, ◌-◌, ◌/◌, ◌<◌, ◌++◌, length, get_or, take, drop, ◌∙◌, add-one, arith, get_or-take}
 use Rattle.refusal.specs.Codes.{Below}
-use Rattle.solver.specs.Sums.{marked, struck, Choice}
+use Rattle.solver.specs.Sums.{struck}
 use Rattle.solver.proofs.Parts.{length_window, get_d_window, length_front}
 use Rattle.solver.proofs.Rowing.{located_codes, struck_code}
 use Rattle.solver.proofs.row.locate.Goals as goal

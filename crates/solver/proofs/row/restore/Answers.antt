@@ -1,9 +1,8 @@
-use Rattle.std.proofs.Common.{◌≡◌, ℕ, suc, ◌+◌, ◌-◌, ◌<◌, ◌≤◌, Bool, true, false, cond, List, ◌++◌, length, get_or, take, drop, sym, refl, ap, ◌∙◌, inl, inr, arith, length-append, get_or-take}
+use Rattle.std.proofs.Common.{◌≡◌, ℕ, ◌<◌, true, false, cond, ◌++◌, length, get_or, take, drop, sym, ap, ◌∙◌, inl, inr, arith, length-append, get_or-take}
 use lib.ListN.{get_or-append}
 use Rattle.std.proofs.lemmas.Bool.{cases_Bool}
 use Rattle.algebra.specs.Showings.{count}
 use Rattle.algebra.proofs.Codes.{zero_code}
-use Rattle.refusal.specs.Codes.{Below}
 use Rattle.solver.specs.Sums.{marked}
 use Rattle.solver.proofs.Parts.{length_front}
 use Rattle.solver.proofs.Ranks.{count_room}

@@ -1,4 +1,4 @@
-use Rattle.std.proofs.Common.{◌≡◌, ℕ, ◌<◌, cond, length, get_or}
+use Rattle.std.proofs.Common.{◌≡◌, ℕ, ◌<◌, cond, get_or}
 use Rattle.algebra.specs.Showings.{count}
 use Rattle.solver.specs.Sums.{marked}
 use Rattle.solver.proofs.row.scatter.Given as goal

@@ -1,7 +1,6 @@
-use Rattle.std.proofs.Common.{◌≡◌, ℕ, suc, ◌+◌, ◌-◌, ◌<◌, ◌≤◌, length, get_or, sym, refl, ap, ◌∙◌, arith}
-use Rattle.algebra.specs.Showings.{count}
+use Rattle.std.proofs.Common.{◌<◌, length, ◌∙◌, arith}
 use Rattle.solver.specs.Sums.{marked}
-use Rattle.solver.proofs.Ranks.{count_room, count_le}
+use Rattle.solver.proofs.Ranks.{count_room}
 use Rattle.solver.proofs.Parts.{length_part}
 use Rattle.solver.proofs.Gathers.{strike_true, strike_false}
 use Rattle.solver.proofs.row.strike.Goals as goal

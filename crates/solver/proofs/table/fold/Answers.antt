@@ -1,6 +1,5 @@
-use Rattle.std.proofs.Common.{◌≡◌, ℕ, suc, ◌+◌, ◌-◌, ◌*◌, ◌<◌, ◌≤◌, length, get_or, set, sym, refl, ap, ◌∙◌, inl, inr, mul-le-mul_right, suc-mul, zero-mul, add-one, arith, get_or-set_other, get_or-set_same}
+use Rattle.std.proofs.Common.{◌≡◌, ◌+◌, ◌*◌, ◌≤◌, length, get_or, set, sym, ap, ◌∙◌, inl, inr, mul-le-mul_right, arith, get_or-set_other, get_or-set_same}
 use Rattle.std.proofs.lemmas.Bool.{cases_eq}
-use Rattle.solver.proofs.Parts.{part, length_part}
 use Rattle.solver.specs.Sums.{fold_of}
 use Rattle.solver.proofs.Tables.{fold_more}
 use Rattle.solver.proofs.table.fold.Goals as goal

@@ -1,4 +1,4 @@
-use Rattle.std.proofs.Common.{◌≡◌, length}
+use Rattle.std.proofs.Common.{◌≡◌}
 use Rattle.laws.specs.Ops.{power}
 use Rattle.solver.specs.Sums.{Taken}
 use Rattle.solver.proofs.table.take_out.Given as goal

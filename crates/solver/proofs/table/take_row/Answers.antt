@@ -1,6 +1,4 @@
-use Rattle.std.proofs.Common.{◌≡◌, ℕ, suc, ◌+◌, ◌-◌, ◌*◌, ◌<◌, ◌≤◌, length, get_or, set, sym, refl, ap, ◌∙◌, inl, inr, mul-le-mul_right, suc-mul, zero-mul, add-one, arith, get_or-set_other, get_or-set_same}
-use Rattle.std.proofs.lemmas.Bool.{cases_eq}
-use Rattle.solver.proofs.Parts.{part, length_part}
+use Rattle.std.proofs.Common.{add-one, arith}
 use Rattle.solver.proofs.Tables.{row_more}
 use Rattle.solver.proofs.table.take_row.Goals as goal
 

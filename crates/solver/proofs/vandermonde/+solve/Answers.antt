@@ -1,9 +1,9 @@
-use Rattle.std.proofs.Common.{◌≡◌, ℕ, suc, ◌+◌, ◌-◌, ◌<◌, ◌≤◌, length, get_or, sym, refl, ap, ◌∙◌, one-add, arith, rules}
+use Rattle.std.proofs.Common.{◌≡◌, ℕ, suc, ◌-◌, ◌<◌, length, get_or, sym, ap, ◌∙◌, one-add, arith, rules}
 use Rattle.laws.specs.Ops.{power, sum}
 use borrow.Rule.Slice.PartMut.{put_mid}
 use Rattle.refusal.specs.Codes.{Below}
 use Rattle.laws.specs.Ops.{less}
-use Rattle.solver.specs.Sums.{found, moment}
+use Rattle.solver.specs.Sums.{found}
 use Rattle.solver.proofs.Parts.{part, length_part, get_d_part, put_before, put_in, sum_cong}
 use Rattle.solver.proofs.Solving.{step_below, step_moment, next}
 use Rattle.solver.proofs.vandermonde.+solve.Goals as goal

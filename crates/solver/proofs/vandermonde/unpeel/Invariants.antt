@@ -1,4 +1,4 @@
-use Rattle.std.proofs.Common.{◌≡◌, ℕ, suc, ◌<◌, ◌≤◌, length, get_or}
+use Rattle.std.proofs.Common.{◌≡◌, ℕ, suc, ◌<◌, get_or}
 use Rattle.laws.specs.Ops.{sum}
 use Rattle.solver.specs.Sums.{found}
 use Rattle.solver.proofs.vandermonde.unpeel.Given as goal

@@ -1,4 +1,4 @@
-use Rattle.std.proofs.Common.{◌≡◌, Ok, sym, refl, ap, ◌∙◌, arith}
+use Rattle.std.proofs.Common.{Ok, sym, ap, ◌∙◌, arith}
 use Rattle.medium.specs.Counts.{strip_count}
 use Rattle.medium.specs.Places.{strip_at}
 use Rattle.tray.proofs.Shows.{look_unsuited, look_suited}

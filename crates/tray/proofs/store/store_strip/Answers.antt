@@ -1,4 +1,4 @@
-use Rattle.std.proofs.Common.{◌≡◌, ℕ, ◌+◌, ◌<◌, get_or, set, ◌∙◌, arith, length-set, below_more}
+use Rattle.std.proofs.Common.{◌+◌, get_or, ◌∙◌, arith, length-set, below_more}
 use Rattle.tray.proofs.Strips.{two_other, two_first, two_second}
 use Rattle.tray.proofs.store.store_strip.Goals as goal
 

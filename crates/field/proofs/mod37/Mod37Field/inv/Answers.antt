@@ -1,4 +1,4 @@
-use Rattle.std.proofs.Common.{◌≡◌, ℕ, ◌%◌, ◌^◌, Bool, cond, eqb, List, [], ◌∷◌, get_or, sym, ap, ◌∙◌, eqb→eq}
+use Rattle.std.proofs.Common.{ℕ, ◌%◌, ◌^◌, Bool, eqb, List, [], ◌∷◌, get_or, sym, ◌∙◌, eqb→eq}
 use Rattle.laws.proofs.Tests.{at}
 use Rattle.laws.proofs.Within.{in_1}
 use Rattle.field.proofs.mod37.Mod37Field.inv.Goals as goal

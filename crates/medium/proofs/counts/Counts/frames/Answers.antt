@@ -1,4 +1,4 @@
-use Rattle.std.proofs.Common.{sym, ◌∙◌, arith}
+use Rattle.std.proofs.Common.{sym, arith}
 use Rattle.medium.proofs.Counted.{frames_kept, frames_else, bounds}
 use Rattle.medium.proofs.counts.Counts.frames.Goals as goal
 

@@ -1,4 +1,4 @@
-use Rattle.std.proofs.Common.{sym, refl, ◌∙◌}
+use Rattle.std.proofs.Common.{sym, refl}
 use Rattle.std.proofs.lemmas.Bool.{both_ways}
 use Rattle.medium.specs.Counts.{keeps}
 use Rattle.medium.proofs.Counted.{kept_suited, suited_kept, frames_kept, strips_kept, squares_kept}

@@ -1,4 +1,4 @@
-use Rattle.std.proofs.Common.{sym, ◌∙◌, arith}
+use Rattle.std.proofs.Common.{sym, arith}
 use Rattle.medium.proofs.Counted.{squares_kept, squares_else, bounds}
 use Rattle.medium.proofs.counts.Counts.squares.Goals as goal
 

@@ -1,6 +1,6 @@
-use Rattle.std.proofs.Common.{◌≡◌, ◌+◌, ◌*◌, ◌≤◌, sym, subst, arith}
+use Rattle.std.proofs.Common.{◌≡◌, ◌*◌, arith}
 use Rattle.medium.specs.Counts.{frame_count, strip_count, square_count}
-use Rattle.medium.specs.Places.{size_of, strip_at}
+use Rattle.medium.specs.Places.{strip_at}
 use Rattle.medium.proofs.Counted.{suited_of}
 use Rattle.medium.proofs.Places.{row_le, few_strips, few_bytes, strip_inside}
 use Rattle.medium.proofs.counts.Counts.strip_at.Goals as goal

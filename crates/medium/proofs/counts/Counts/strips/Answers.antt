@@ -1,4 +1,4 @@
-use Rattle.std.proofs.Common.{sym, ◌∙◌, arith}
+use Rattle.std.proofs.Common.{sym, arith}
 use Rattle.medium.proofs.Counted.{strips_kept, strips_else, bounds}
 use Rattle.medium.proofs.counts.Counts.strips.Goals as goal
 
