@@ -46,7 +46,8 @@ def turned(t):
             t = new + t[len(old):]
     tail = re.search(r"'*$", t).group(0)
     body = t[:len(t) - len(tail)]
-    parts = body.split("-")
+    # the kit's script may have turned the dash of a type to an underscore
+    parts = re.split("[-_]" if re.match(r"[A-Z][a-z]+_", body) else "-", body)
     if not all(parts):
         return t
     if re.match(r"[A-Z]", body):
@@ -72,7 +73,7 @@ def made(t, source):
 
 
 def odd(t):
-    return bool(re.search(r"[\w']-[\w]", t) or re.match(r"[a-z]\w*[A-Z]", t))
+    return bool(re.search(r"[\w']-[\w]", t) or re.match(r"[a-z]\w*[A-Z]|[A-Z][a-z]+_[a-z]", t))
 
 
 def split_comment(line, mark):
