@@ -30,8 +30,8 @@ pub trait Medium {
     fn squares(&self) -> usize
         ensures value { result ≡ (shows self.now).squares };
 
-    /// How many codes a square can show. The limits of the whole meaning are promised here, in a clause: a `law` of the
-    /// trait would say the same, but the checker makes no proof of a law for a type that borrows its memory.
+    /// How many codes a square can show. The limits of the whole meaning are promised here, in a clause, and not by a law of
+    /// the trait; docs/DECISIONS.md says why.
     fn levels(&self) -> usize
         ensures value { result ≡ (shows self.now).levels }
         ensures below { Limits (shows self.now) };
