@@ -51,8 +51,7 @@ fn geometry(rt: &HostRuntime, room: &mut [u8]) -> Result<Geometry, Refusal> {
 }
 
 fn write_refusal<W: Write>(out: &mut W, refusal: Refusal) -> io::Result<()> {
-    let number = refusal.number();
-    writeln!(out, "! {number}")
+    writeln!(out, "! {refusal}")
 }
 
 // Answers a line.

@@ -105,7 +105,7 @@ fn put_answer(out: &mut [u8], at: usize, answer: Answer) -> usize
 {
     match answer {
         Answer::Done => put_figure(out, at, 0),
-        Answer::Refused(cause) => put_figure(out, at, cause.number() as usize),
+        Answer::Refused(cause) => put_figure(out, at, u8::from(cause) as usize),
         Answer::Reading {
             gone,
             doubtful,
@@ -137,6 +137,6 @@ pub fn error_line(cause: Refusal, out: &mut [u8]) -> Result<usize, Refusal>
         return Err(Refusal::WrongLength);
     }
     let mark = put(out, 0, b'!');
-    let number = put_figure(out, mark, cause.number() as usize);
+    let number = put_figure(out, mark, u8::from(cause) as usize);
     Ok(put(out, number, b'\n'))
 }

@@ -23,20 +23,14 @@ fn tell(rt: &impl Print, step: &str, answer: Result<Counts, Refusal>) -> io::Res
         ) => println!(rt;
             "{step}: {gone} strips gone, {doubtful} squares doubtful, {changed} changed",
         ),
-        Err(refusal) => {
-            let number = refusal.number();
-            println!(rt; "{step}: refused with {number}")
-        }
+        Err(refusal) => println!(rt; "{step}: refused with {refusal}"),
     }
 }
 
 fn tell_done(rt: &impl Print, step: &str, answer: Result<(), Refusal>) -> io::Result<()> {
     match answer {
         Ok(()) => println!(rt; "{step}: done"),
-        Err(refusal) => {
-            let number = refusal.number();
-            println!(rt; "{step}: refused with {number}")
-        }
+        Err(refusal) => println!(rt; "{step}: refused with {refusal}"),
     }
 }
 

@@ -4,6 +4,9 @@
 ghost use Rattle.std.specs.Prelude.{◌≡◌};
 ghost use Rattle.refusal.specs.Numbers.{number_of};
 
+use std::error::Error;
+use std::fmt;
+
 /// The cause of a refusal. Its discriminant is the number that programs print and C callers get.
 #[derive(Clone, Copy, PartialEq, Eq, Debug)]
 pub enum Refusal {
@@ -33,11 +36,20 @@ pub enum Refusal {
     EndsEarly = 12,
 }
 
-impl Refusal {
-    /// The number of the cause.
-    pub fn number(self) -> u8
-        ensures value { result ≡ number_of self }
-    {
-        self as u8
+/// The number of a cause.
+impl From<Refusal> for u8 {
+    ghost from_gives = { λ cause number. number ≡ number_of cause };
+
+    fn from(cause: Refusal) -> u8 {
+        cause as u8
     }
 }
+
+/// Prints the number.
+impl fmt::Display for Refusal {
+    fn fmt<W: fmt::Write>(&self, f: &mut fmt::Formatter<W>) -> fmt::Result {
+        write!(f, "{}", u8::from(*self))
+    }
+}
+
+impl Error for Refusal {}

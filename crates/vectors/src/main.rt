@@ -61,8 +61,7 @@ fn answer_frame<F: Field, W: Write>(question: &[u8], out: &mut W) -> io::Result<
 }
 
 fn write_number<W: Write>(refusal: Refusal, out: &mut W) -> io::Result<()> {
-    let number = refusal.number();
-    write!(out, "{number}")
+    write!(out, "{refusal}")
 }
 
 // The frame that fits the showing that is asked for, its length, and its counts.

@@ -8,7 +8,7 @@ returns c = record {
   value =
       let mark = c.put-mark.ensures.value in
       let number = c.put_figure-number.ensures in
-      let same = puts_as _ _ _ _ _ _ (ap figure c.number.ensures.value) number.value in
+      let same = puts_as _ _ _ _ _ _ (ap figure c.from.ensures) number.value in
       let newline = c.put.ensures.value in
       inr (
         λ bad. bad (omega arith),
