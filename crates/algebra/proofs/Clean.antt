@@ -1,24 +1,9 @@
 -- What is shown exactly fits, and what fits under a limit fits under a higher one: counting alone. Assumes nothing.
-use Rattle.std.proofs.Common.{◌≡◌, ℕ, zero, suc, ◌*◌, ◌/◌, ◌<◌, Bool, true, false, not, ◌&&◌, ◌||◌, eqb, ltb, get_or, sym, refl, arith, lt-ltb, eq-eqb}
+use Rattle.std.proofs.Common.{◌≡◌, ℕ, ◌*◌, ◌/◌, ◌<◌, Bool, false, not, ◌&&◌, ◌||◌, eqb, ltb, get_or, sym, refl, arith, lt-ltb, eq-eqb}
+use Rattle.std.proofs.lemmas.Bool.{and_right, or_from, not_from_true}
 use Rattle.algebra.specs.Showings.{Showing, reading, count, doubt, differs, silent}
 use Rattle.algebra.specs.Statements.{ExactFits, FitsHigher}
-
-pub count_none : (k : ℕ) (t : ℕ → Bool) → ((i : ℕ) → i < k → t i ≡ false) → count k t ≡ 0
-count_none zero t h = refl
-count_none (suc k) t h = let ih = count_none k t (λ i l. h i (omega arith)) in rw (h k (omega arith)) (omega arith)
-
-sure : (g d l : Bool) → d ≡ false → l ≡ true → (not g && (d || not l)) ≡ false
-sure true d l p q = refl
-sure false d l p q = cc
-
-as_shown : (g d e : Bool) → e ≡ true → (not g && (not d && not e)) ≡ false
-as_shown true d e p = refl
-as_shown false true e p = refl
-as_shown false false e p = cc
-
-right : (h b : Bool) → b ≡ false → (not h && b) ≡ false
-right true b p = refl
-right false b p = p
+use Rattle.algebra.proofs.Counting.{count_none}
 
 pub exact_fits : ExactFits
 exact_fits F m n c rule limit w xs f s =
@@ -48,10 +33,14 @@ exact_fits F m n c rule limit w xs f s =
     code p l = rw (s.same p l) (f.codes p (omega (arith, f.size)))
 
     doubts : count (n * m) (doubt m (reading F.order w)) ≡ 0
-    doubts = count_none (n * m) (doubt m (reading F.order w)) (λ p l. sure (w.gone (p / m)) (w.doubtful p) (ltb (w.shown p) F.order) (s.certain p l) (lt-ltb (w.shown p) F.order (code p l)))
+    doubts = count_none (n * m) (doubt m (reading F.order w)) (λ p l. and_right (not (w.gone (p / m))) (w.doubtful p || not (ltb (w.shown p) F.order))
+        (or_from (w.doubtful p) (not (ltb (w.shown p) F.order)) (s.certain p l) (not_from_true (ltb (w.shown p) F.order) (lt-ltb (w.shown p) F.order (code p l)))))
 
     same : (p : ℕ) → p < n * m → differs m (reading F.order w) xs p ≡ false
-    same p l = as_shown (w.gone (p / m)) (w.doubtful p || not (ltb (w.shown p) F.order)) (eqb (get_or xs p 0) (w.shown p)) (eq-eqb (get_or xs p 0) (w.shown p) (sym (s.same p l)))
+    same p l =
+        let d : Bool = w.doubtful p || not (ltb (w.shown p) F.order) in
+        let e : Bool = eqb (get_or xs p 0) (w.shown p) in
+        and_right (not (w.gone (p / m))) (not d && not e) (and_right (not d) (not e) (not_from_true e (eq-eqb (get_or xs p 0) (w.shown p) (sym (s.same p l)))))
 
     changes : count (n * m) (differs m (reading F.order w) xs) ≡ 0
     changes = count_none (n * m) (differs m (reading F.order w) xs) same

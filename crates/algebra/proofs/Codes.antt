@@ -6,6 +6,7 @@ use Rattle.std.proofs.lemmas.List.{get_or_past}
 use Rattle.std.proofs.lemmas.Bool.{cases_order, cases_lt}
 use Rattle.refusal.specs.Codes.{Below}
 use Rattle.algebra.specs.Frames.{IsFrame, check_sum}
+use Rattle.algebra.proofs.Squares.{check}
 use Rattle.algebra.proofs.Dual.{Balanced}
 use lib.Arith.{digits_div}
 use Rattle.algebra.proofs.Ring.{Whole, sum, sum_cong, sum_rows, power}
@@ -56,6 +57,10 @@ module _ (F : Ops) (L : Laws F) where
   pub at_code : (xs : List ℕ) → Below F.order xs → (s : ℕ) → get_or xs s 0 < F.order
   at_code xs h s = elim (cases_lt s (length xs)) [ inl l ↦ h s l | inr l ↦ rw (get_or_past xs s 0 l) zero_code ]
 
+  pub sum_code : (k : ℕ) (f : ℕ → ℕ) → sum_f F k f < F.order
+  sum_code zero f = zero_code
+  sum_code (suc k) f = L.add_code (sum_f F k f) (f k)
+
   -- a list of codes, as elements
   abbrev pub at : (xs : List ℕ) → Below F.order xs → ℕ → Fin F.order
   at xs h s = (get_or xs s 0, at_code xs h s)
@@ -64,35 +69,28 @@ module _ (F : Ops) (L : Laws F) where
     abbrev pub a : ℕ → Fin F.order
     a j = power codes gen j
 
-    abbrev pub α : ℕ → Fin F.order
-    α s = a (s / m)
-
     pub a_apart : (i j : ℕ) → i < n → j < n → i ≢ j → a i ≢ a j
     a_apart i j li lj d = let h : n * 1 ≤ n * m = mul-le-mul_left n pos in power_apart i j (omega arith) (omega arith) d
 
     pub β_apart : (i j : ℕ) → i < n * m → j < n * m → i ≢ j → a i ≢ a j
     β_apart i j li lj d = power_apart i j (omega arith) (omega arith) d
 
-    -- a sum over all squares of what goes by the strip and the square
-    pub rows : (t : ℕ → ℕ → Fin F.order) → sum codes (n * m) (λ s. t (s / m) s) ≡ sum codes n (λ j. sum codes m (λ κ. t j (j * m + κ)))
-    rows t = sum_rows codes n m (λ s. t (s / m) s)
-        ∙ sum_cong codes n (λ j. sum codes m (λ κ. t ((j * m + κ) / m) (j * m + κ))) (λ j. sum codes m (λ κ. t j (j * m + κ)))
-        (λ j _. sum_cong codes m (λ κ. t ((j * m + κ) / m) (j * m + κ)) (λ κ. t j (j * m + κ)) (λ κ l. ap (λ i. t i (j * m + κ)) (digits_div j l)))
+    -- the check sums of a list of codes
+    pub check_code : (xs : List ℕ) (b : Below F.order xs) (h i : ℕ) → (check codes n m a a (at xs b) h i).0 ≡ check_sum F m n xs h i
+    check_code xs b h i =
+        ap (λ z. z.0) (sum_rows codes n m (λ p. weigh (at xs b p) (power codes (a (p / m)) i) (power codes (a p) h))
+        ∙ sum_cong codes n (λ j. sum codes m (λ κ. weigh (at xs b (j * m + κ)) (power codes (a ((j * m + κ) / m)) i) (power codes (a (j * m + κ)) h)))
+        (λ j. sum codes m (λ κ. spread xs b h i j κ))
+        (λ j _. sum_cong codes m (λ κ. weigh (at xs b (j * m + κ)) (power codes (a ((j * m + κ) / m)) i) (power codes (a (j * m + κ)) h)) (spread xs b h i j)
+        (λ κ l. ap (λ s. weigh (at xs b (j * m + κ)) (power codes (a s) i) (power codes (a (j * m + κ)) h)) (digits_div j l)
+        ∙ codes.mul_assoc (at xs b (j * m + κ)) (power codes (a j) i) (power codes (a (j * m + κ)) h))))
+        ∙ (let e : (sum codes n (λ j. sum codes m (spread xs b h i j))).0 ≡ check_sum F m n xs h i = simp (sum_val, power_val) in e)
+      where
+        weigh : Fin F.order → Fin F.order → Fin F.order → Fin F.order
+        weigh x u v = codes.◌⊙◌ (codes.◌⊙◌ x u) v
 
-    weight : ℕ → ℕ → ℕ → ℕ → Fin F.order
-    weight i h j s = codes.◌⊙◌ (power codes (a j) i) (power codes (a s) h)
+        spread : (xs : List ℕ) → Below F.order xs → ℕ → ℕ → ℕ → ℕ → Fin F.order
+        spread xs b h i j κ = codes.◌⊙◌ (at xs b (j * m + κ)) (codes.◌⊙◌ (power codes (a j) i) (power codes (a (j * m + κ)) h))
 
-    check_val : (xs : List ℕ) (k : Below F.order xs) (h i : ℕ) → (sum codes n (λ j. sum codes m (λ κ. codes.◌⊙◌ (at xs k (j * m + κ)) (weight i h j (j * m + κ))))).0 ≡ check_sum F m n xs h i
-    unfolding weight
-    check_val xs k h i = simp (sum_val, power_val)
-
-    pub balanced : (xs : List ℕ) (f : IsFrame F m n c xs) → Balanced codes (n * m) c m α a (at xs f.codes)
-    unfolding weight
-    balanced xs f i h li lh =
-        rows (λ j s. codes.◌⊙◌ (at xs f.codes s) (weight i h j s)) ∙ native.Mathlib.Fin.val_path (check_val xs f.codes h i ∙ f.checks h i lh li)
-
-    -- the check sums of a list of codes, as one sum over the places
-    pub check_sum_val : (xs : List ℕ) (k : Below F.order xs) (h i : ℕ)
-        → (sum codes (n * m) (λ s. codes.◌⊙◌ (at xs k s) (codes.◌⊙◌ (power codes (α s) i) (power codes (a s) h)))).0 ≡ check_sum F m n xs h i
-    unfolding weight
-    check_sum_val xs k h i = ap (λ z. z.0) (rows (λ j s. codes.◌⊙◌ (at xs k s) (weight i h j s))) ∙ check_val xs k h i
+    pub balanced : (xs : List ℕ) (f : IsFrame F m n c xs) → Balanced codes n m c a a (at xs f.codes)
+    balanced xs f h i lh li = native.Mathlib.Fin.val_path (check_code xs f.codes h i ∙ f.checks h i lh li)

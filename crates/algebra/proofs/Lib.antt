@@ -1,12 +1,12 @@
+pub mod Counting
 pub mod Ring
-pub mod Members
-pub mod Dual
 pub mod Moments
 pub mod Stages
 pub mod Roots
-pub mod Codes
 pub mod Listing
-pub mod Fitting
-pub mod Clean
 pub mod Rows
 pub mod Squares
+pub mod Dual
+pub mod Codes
+pub mod Fitting
+pub mod Clean

@@ -1,8 +1,8 @@
--- The numbers that pass a test, and the numbers from one on, as lists. Assumes nothing.
-use Rattle.std.proofs.Common.{◌≡◌, ℕ, zero, suc, ◌+◌, ◌<◌, ◌≤◌, Bool, true, false, cond, List, [], ◌∷◌, length, sym, refl, ap, ◌∙◌, inl, inr, arith}
+-- The numbers that pass a test, as a list. Assumes nothing.
+use Rattle.std.proofs.Common.{◌≡◌, ℕ, zero, suc, ◌+◌, ◌<◌, Bool, true, false, cond, List, [], ◌∷◌, length, All, Contains, sym, refl, ap, ◌∙◌, arith}
 use native.Mathlib.Decide.{ℕ_discrete}
+use Rattle.std.proofs.lemmas.List.Elements.{All-nil, All-cons, All-weaker}
 use Rattle.algebra.specs.Showings.{count}
-use Rattle.algebra.proofs.Ring.{In}
 
 -- the numbers below k that pass
 unfoldable pub listed : ℕ → (ℕ → Bool) → List ℕ
@@ -15,45 +15,21 @@ length_listed zero p = refl
 length_listed (suc k) p = let ih = length_listed k p in
     elim (p k) as (λ b. length (cond b (k ∷ listed k p) (listed k p)) ≡ count k p + cond b 1 0) [ true ↦ omega arith | false ↦ omega arith ]
 
-pub in_listed : (k : ℕ) (p : ℕ → Bool) (i : ℕ) → i < k → p i ≡ true → In i (listed k p)
+pub in_listed : (k : ℕ) (p : ℕ → Bool) (i : ℕ) → i < k → p i ≡ true → Contains (listed k p) i
 unfolding listed
 in_listed zero p i l e = absurd (omega arith)
 in_listed (suc k) p i l e = elim (ℕ_discrete i k) [
-  | yes s ↦ rw (ap p (sym s) ∙ e) (inl s)
+  | yes s ↦ rw (ap p (sym s) ∙ e) (zero, omega arith, sym s)
   | no d ↦ widen (p k) (in_listed k p i (omega arith) e)
 ]
   where
-    widen : (b : Bool) → In i (listed k p) → In i (cond b (k ∷ listed k p) (listed k p))
-    widen true h = inr h
+    widen : (b : Bool) → Contains (listed k p) i → Contains (cond b (k ∷ listed k p) (listed k p)) i
+    widen true h = (suc h.0, omega (arith, h.1), h.2)
     widen false h = h
 
-pub from_listed : (k : ℕ) (p : ℕ → Bool) (i : ℕ) → In i (listed k p) → i < k
+pub from_listed : (k : ℕ) (p : ℕ → Bool) → All (λ i. i < k) (listed k p)
 unfolding listed
-from_listed zero p i h = absurd h
-from_listed (suc k) p i h = narrow (p k) (from_listed k p i) h
-  where
-    narrow : (b : Bool) → (In i (listed k p) → i < k) → In i (cond b (k ∷ listed k p) (listed k p)) → i < suc k
-    narrow true f (inl e) = omega arith
-    narrow true f (inr h) = omega (arith, f h)
-    narrow false f h = omega (arith, f h)
-
--- the k numbers from a on
-pub range : ℕ → ℕ → List ℕ
-range a zero = []
-range a (suc k) = (a + k) ∷ range a k
-
-pub length_range : (a k : ℕ) → length (range a k) ≡ k
-unfolding range
-length_range a zero = refl
-length_range a (suc k) = ap suc (length_range a k)
-
-pub in_range : (a k i : ℕ) → a ≤ i → i < a + k → In i (range a k)
-unfolding range
-in_range a zero i l h = absurd (omega arith)
-in_range a (suc k) i l h = elim (ℕ_discrete i (a + k)) [ yes e ↦ inl e | no d ↦ inr (in_range a k i l (omega arith)) ]
-
-pub from_range : (a k i : ℕ) → In i (range a k) → i < a + k
-unfolding range
-from_range a zero i h = absurd h
-from_range a (suc k) i (inl e) = omega arith
-from_range a (suc k) i (inr h) = omega (arith, from_range a k i h)
+from_listed zero p = All-nil (λ i. i < zero)
+from_listed (suc k) p =
+    let below = All-weaker (λ i. i < k) (λ i. i < suc k) (λ i l. omega arith) (listed k p) (from_listed k p) in
+    elim (p k) as (λ b. All (λ i. i < suc k) (cond b (k ∷ listed k p) (listed k p))) [ true ↦ All-cons (λ i. i < suc k) k (listed k p) (omega arith) below | false ↦ below ]

@@ -1,8 +1,8 @@
 -- Sums of weights against the powers of points, peeled; at most one weighing has given sums. Assumes nothing.
-use Rattle.std.proofs.Common.{◌≡◌, ℕ, zero, suc, ◌+◌, ◌<◌, ◌≤◌, ◌≢◌, ◌⊎◌, List, [], ◌∷◌, map, length, sym, refl, ap, ◌∙◌, inl, inr, arith}
-use lib.ListN.{length-map}
-use Rattle.algebra.proofs.Ring.{Whole, In, add_comm, add_assoc, add_zero, zero_add, mul_zero, mul_one, mul_assoc, zero_mul, neg_mul, mul_comm, sum, sum_cong, sum_add, sum_scale, sum_one, power, diffs, diffs_zero, diffs_nonzero, no_divisor, equal, add_neg, neg_zero, ring}
-use Rattle.algebra.proofs.Members.{in_map, from_map, without}
+use Rattle.std.proofs.Common.{◌≡◌, ℕ, zero, suc, ◌<◌, ◌≤◌, ◌≢◌, ◌⊎◌, List, [], ◌∷◌, length, All, Contains, sym, ap, ◌∙◌, inl, inr, arith}
+use native.Mathlib.Decide.{ℕ_discrete}
+use Rattle.std.proofs.lemmas.List.Elements.{All-head, All-tail}
+use Rattle.algebra.proofs.Ring.{Whole, add_comm, add_assoc, zero_add, mul_zero, mul_one, mul_assoc, zero_mul, neg_mul, mul_comm, sum, sum_cong, sum_add, sum_neg, sum_scale, sum_one, power, no_divisor, zero_product, less_self, less_none, add_less, equal, add_neg, ring}
 
 module _ (W : Whole) where
   open W use {C, 𝟘, 𝟙, ◌⊕◌, ◌⊙◌, ⊖◌, inv, mul_inv}
@@ -31,75 +31,47 @@ module _ (W : Whole) where
       ∙ sum_cong W k (λ s. w s ⊙ power W (x s) (suc i) ⊕ ⊖ b ⊙ (w s ⊙ power W (x s) i)) (λ s. (w s ⊙ (x s ⊕ ⊖ b)) ⊙ power W (x s) i)
       (λ s l. peel_term (w s) (x s) (power W (x s) i) b)
 
-  -- peeled by each of a list
-  abbrev pub peels : List C → (ℕ → C) → ℕ → C
-  peels [] v = v
-  peels (b ∷ bs) v = peel b (peels bs v)
+  pub peel_zero : (b p q : C) → p ≡ 𝟘 → q ≡ 𝟘 → p ⊕ ⊖ (b ⊙ q) ≡ 𝟘
+  peel_zero b p q e e' = less_none W p (b ⊙ q) (zero_product W b q (inr e')) ∙ e
 
-  around : (w x d : C) → w ⊙ d ⊙ x ≡ w ⊙ (x ⊙ d)
-  around w x d = simp (mul_assoc, mul_comm W d x)
-
-  pub peels_moment : (k : ℕ) (x w : ℕ → C) (c : ℕ) (v : ℕ → C) → ((i : ℕ) → i < c → v i ≡ moment k x w i) → (bs : List C) (i : ℕ) → i + length bs < c
-      → peels bs v i ≡ moment k x (λ s. w s ⊙ diffs W bs (x s)) i
-  unfolding diffs
-  peels_moment k x w c v h [] i l = h i (omega arith) ∙ moment_cong k x w (λ s. w s ⊙ 𝟙) i (λ s _. sym (mul_one W (w s)))
-  peels_moment k x w c v h (b ∷ bs) i l =
-      (let e = peels_moment k x w c v h bs (suc i) (omega arith) in let e' = peels_moment k x w c v h bs i (omega arith) in cc)
-      ∙ moment_peel k x (λ s. w s ⊙ diffs W bs (x s)) b i
-      ∙ moment_cong k x (λ s. w s ⊙ diffs W bs (x s) ⊙ (x s ⊕ ⊖ b)) (λ s. w s ⊙ ((x s ⊕ ⊖ b) ⊙ diffs W bs (x s))) i (λ s _. around (w s) (x s ⊕ ⊖ b) (diffs W bs (x s)))
-
-  peel_zero : (b : C) → 𝟘 ⊕ ⊖ (b ⊙ 𝟘) ≡ 𝟘
-  peel_zero b = simp (mul_zero, neg_zero, add_zero)
-
-  peels_zero : (bs : List C) (v : ℕ → C) → ((i : ℕ) → v i ≡ 𝟘) → (i : ℕ) → peels bs v i ≡ 𝟘
-  peels_zero [] v h i = h i
-  peels_zero (b ∷ bs) v h i = let e = peels_zero bs v h (suc i) in let e' = peels_zero bs v h i in let z = peel_zero b in cc
-
-  -- one point left: its weight is zero
-  pub alone : (k c : ℕ) (x w : ℕ → C) → ((i : ℕ) → i < c → moment k x w i ≡ 𝟘) → (us : List C) (t : ℕ) → t < k → length us < c
-      → ((s : ℕ) → s < k → s ≢ t → (w s ≡ 𝟘) ⊎ In (x s) us) → ((u : C) → In u us → x t ≢ u) → w t ≡ 𝟘
-  unfolding power
-  alone k c x w h us t l few only apart =
-      let z = sym (peels_moment k x w c (λ _. 𝟘) (λ i m. sym (h i m)) us 0 (omega arith)) ∙ peels_zero us (λ _. 𝟘) (λ i. refl) 0 in
-      let one = sum_one W k t (λ s. w s ⊙ diffs W us (x s) ⊙ 𝟙) l (λ s m n. elim (only s m n) [ inl e ↦ dead s (inl e) | inr e ↦ dead s (inr e) ]) in
-      no_divisor W (w t) (diffs W us (x t)) (sym (mul_one W (w t ⊙ diffs W us (x t))) ∙ sym one ∙ z) (diffs_nonzero W us (x t) apart)
-    where
-      dead_1 : (a b : C) → a ≡ 𝟘 → a ⊙ b ⊙ 𝟙 ≡ 𝟘
-      dead_1 a b e = simp (e, zero_mul)
-
-      dead_2 : (a b : C) → b ≡ 𝟘 → a ⊙ b ⊙ 𝟙 ≡ 𝟘
-      dead_2 a b e = simp (e, mul_zero, zero_mul)
-
-      dead : (s : ℕ) → (w s ≡ 𝟘) ⊎ In (x s) us → w s ⊙ diffs W us (x s) ⊙ 𝟙 ≡ 𝟘
-      dead s (inl e) = dead_1 (w s) (diffs W us (x s)) e
-      dead s (inr i) = dead_2 (w s) (diffs W us (x s)) (diffs_zero W us (x s) i)
-
-  -- weights on at most c of k different points whose first c sums are zero
+  -- weights on at most c of k different points whose first c sums are zero: peeled by one point of them, the others go
   pub nothing : (k c : ℕ) (x w : ℕ → C) → ((s t : ℕ) → s < k → t < k → s ≢ t → x s ≢ x t) → ((i : ℕ) → i < c → moment k x w i ≡ 𝟘)
-      → (A : List ℕ) → length A ≤ c → ((s : ℕ) → In s A → s < k) → ((s : ℕ) → s < k → (w s ≡ 𝟘) ⊎ In s A) → (t : ℕ) → t < k → w t ≡ 𝟘
-  nothing k c x w apart h A few below only t l = elim (only t l) [
-    | inl e ↦ e
-    | inr i ↦ (let A' = without t A in
-        alone k c x w h (map x A'.rest) t l (rw length-map (omega (arith, A'.shorter i)))
-        (λ s m n. elim (only s m) [ inl e ↦ inl e | inr j ↦ inr (in_map x s A'.rest (A'.kept s j n)) ])
-        (from_map x (λ u. x t ≢ u) A'.rest (λ s j. apart t s l (below s (A'.left s j)) (λ e. A'.apart s j (sym e)))))
-  ]
+      → (A : List ℕ) → length A ≤ c → All (λ s. s < k) A → ((s : ℕ) → s < k → (w s ≡ 𝟘) ⊎ Contains A s) → (t : ℕ) → t < k → w t ≡ 𝟘
+  unfolding power
+  nothing k c x w apart h [] few below only t l = elim (only t l) [ inl e ↦ e | inr i ↦ absurd (omega (arith, i.1)) ]
+  nothing k zero x w apart h (a ∷ A) few below only t l = absurd (omega arith)
+  nothing k (suc c) x w apart h (a ∷ A) few below only t l =
+      let peeled = nothing k c x (λ s. w s ⊙ (x s ⊕ ⊖ x a)) apart
+      (λ i m. sym (moment_peel k x w (x a) i) ∙ peel_zero (x a) (moment k x w (suc i)) (moment k x w i) (h (suc i) (omega arith)) (h i (omega arith)))
+      A (omega arith) (All-tail (λ s. s < k) a A below) (λ s m. elim (only s m) [ inl e ↦ inl (zero_product W (w s) (x s ⊕ ⊖ x a) (inl e)) | inr i ↦ rest s i ]) in
+      elim (ℕ_discrete t a) [
+        | yes q ↦ sym (mul_one W (w t)) ∙ sym (sum_one W k t (λ s. w s ⊙ 𝟙) l (λ s m n. zero_product W (w s) 𝟙 (inl (other peeled s m (λ e. n (e ∙ sym q)))))) ∙ h 0 (omega arith)
+        | no n ↦ other peeled t l n
+      ]
+    where
+      rest : (s : ℕ) → Contains (a ∷ A) s → (w s ⊙ (x s ⊕ ⊖ x a) ≡ 𝟘) ⊎ Contains A s
+      rest s (zero, m, e) = inl (ap (λ z. w s ⊙ (x s ⊕ ⊖ x z)) e ∙ zero_product W (w s) (x s ⊕ ⊖ x s) (inr (add_neg W (x s))))
+      rest s (suc i, m, e) = inr (i, omega arith, e)
 
-  less_term : (a b p : C) → (a ⊕ ⊖ b) ⊙ p ≡ a ⊙ p ⊕ ⊖ 𝟙 ⊙ (b ⊙ p)
+      other : ((s : ℕ) → s < k → w s ⊙ (x s ⊕ ⊖ x a) ≡ 𝟘) → (s : ℕ) → s < k → s ≢ a → w s ≡ 𝟘
+      other peeled s m n = no_divisor W (w s) (x s ⊕ ⊖ x a) (peeled s m) (λ e. apart s a m (All-head (λ s. s < k) a A below) n (equal W (x s) (x a) e))
+
+  pub less_term : (a b p : C) → (a ⊕ ⊖ b) ⊙ p ≡ a ⊙ p ⊕ ⊖ (b ⊙ p)
   less_term a b p = simp ring
 
-  minus_one : (a : C) → a ⊕ ⊖ 𝟙 ⊙ a ≡ 𝟘
-  minus_one a = ap (λ z. a ⊕ z) (simp ring) ∙ add_neg W a
+  -- the sums of a difference
+  pub moment_less : (k : ℕ) (x w w' : ℕ → C) (i : ℕ) → moment k x (λ s. w s ⊕ ⊖ w' s) i ≡ moment k x w i ⊕ ⊖ moment k x w' i
+  moment_less k x w w' i =
+      sum_cong W k (λ s. (w s ⊕ ⊖ w' s) ⊙ power W (x s) i) (λ s. w s ⊙ power W (x s) i ⊕ ⊖ (w' s ⊙ power W (x s) i)) (λ s _. less_term (w s) (w' s) (power W (x s) i))
+      ∙ sum_add W k (λ s. w s ⊙ power W (x s) i) (λ s. ⊖ (w' s ⊙ power W (x s) i))
+      ∙ ap (λ z. moment k x w i ⊕ z) (sum_neg W k (λ s. w' s ⊙ power W (x s) i))
 
   -- two weighings with the same first c sums
   pub same : (k c : ℕ) (x w w' : ℕ → C) → ((s t : ℕ) → s < k → t < k → s ≢ t → x s ≢ x t) → ((i : ℕ) → i < c → moment k x w i ≡ moment k x w' i)
-      → (A : List ℕ) → length A ≤ c → ((s : ℕ) → In s A → s < k) → ((s : ℕ) → s < k → (w s ≡ w' s) ⊎ In s A) → (t : ℕ) → t < k → w t ≡ w' t
+      → (A : List ℕ) → length A ≤ c → All (λ s. s < k) A → ((s : ℕ) → s < k → (w s ≡ w' s) ⊎ Contains A s) → (t : ℕ) → t < k → w t ≡ w' t
   same k c x w w' apart h A few below only t l =
-      equal W (w t) (w' t) (nothing k c x (λ s. w s ⊕ ⊖ w' s) apart
-      (λ i m. sum_cong W k (λ s. (w s ⊕ ⊖ w' s) ⊙ power W (x s) i) (λ s. w s ⊙ power W (x s) i ⊕ ⊖ 𝟙 ⊙ (w' s ⊙ power W (x s) i)) (λ s _. less_term (w s) (w' s) (power W (x s) i))
-      ∙ sum_add W k (λ s. w s ⊙ power W (x s) i) (λ s. ⊖ 𝟙 ⊙ (w' s ⊙ power W (x s) i))
-      ∙ (let e = h i m in let e' = sum_scale W k (⊖ 𝟙) (λ s. w' s ⊙ power W (x s) i) in let e'' = minus_one (moment k x w' i) in cc))
-      A few below (λ s m. elim (only s m) [ inl e ↦ inl (ap (λ z. z ⊕ ⊖ w' s) e ∙ add_neg W (w' s)) | inr j ↦ inr j ]) t l)
+      equal W (w t) (w' t) (nothing k c x (λ s. w s ⊕ ⊖ w' s) apart (λ i m. moment_less k x w w' i ∙ less_self W (moment k x w i) (moment k x w' i) (h i m))
+      A few below (λ s m. elim (only s m) [ inl e ↦ inl (less_self W (w s) (w' s) e) | inr j ↦ inr j ]) t l)
 
   pub sum_first : (k : ℕ) (f : ℕ → C) → sum W (suc k) f ≡ f 0 ⊕ sum W k (λ i. f (suc i))
   unfolding sum
@@ -112,9 +84,6 @@ module _ (W : Whole) where
   drop_first : (x a s : C) → x ⊙ (a ⊕ ⊖ a) ⊙ s ≡ 𝟘
   drop_first x a s = ap (λ z. x ⊙ z ⊙ s) (add_neg W a) ∙ simp (mul_zero, zero_mul)
 
-  rejoin : (a b : C) → a ⊕ ⊖ b ⊕ b ≡ a
-  rejoin a b = add_assoc W a (⊖ b) b ∙ ap (λ z. a ⊕ z) (add_comm W (⊖ b) b ∙ add_neg W b) ∙ add_zero W a
-
   -- weights of the sums that are peeled by the first point give the weights
   pub solved : (n : ℕ) (a v y x : ℕ → C) → ((t : ℕ) → t < n → a (suc t) ≢ a 0)
       → ((i : ℕ) → i < n → moment n (λ t. a (suc t)) y i ≡ peel (a 0) v i)
@@ -125,7 +94,7 @@ module _ (W : Whole) where
   solved n a v y x apart peeled rest head zero l =
       sum_first n (λ t. x t ⊙ 𝟙)
       ∙ ap (λ z. x 0 ⊙ 𝟙 ⊕ z) (sum_cong W n (λ t. x (suc t) ⊙ 𝟙) (λ t. x (suc t)) (λ t _. mul_one W (x (suc t))))
-      ∙ (let e = mul_one W (x 0) in let e' = rejoin (v 0) (sum W n (λ t. x (suc t))) in cc)
+      ∙ (let e = mul_one W (x 0) in let e' = add_less W (v 0) (sum W n (λ t. x (suc t))) in cc)
   solved n a v y x apart peeled rest head (suc i) l =
       let ih = solved n a v y x apart peeled rest head i (omega arith) in
       let m = moment_peel (suc n) a x (a 0) i ∙ sum_first n (λ t. x t ⊙ (a t ⊕ ⊖ a 0) ⊙ power W (a t) i) in
@@ -135,4 +104,4 @@ module _ (W : Whole) where
       let d = drop_first (x 0) (a 0) (power W (a 0) i) in
       let z = zero_add W (peel (a 0) v i) in
       let same : peel (a 0) (moment (suc n) a x) i ≡ peel (a 0) v i = cc in
-      sym (rejoin (moment (suc n) a x (suc i)) (a 0 ⊙ moment (suc n) a x i)) ∙ (let r = rejoin (v (suc i)) (a 0 ⊙ v i) in cc)
+      sym (add_less W (moment (suc n) a x (suc i)) (a 0 ⊙ moment (suc n) a x i)) ∙ (let r = add_less W (v (suc i)) (a 0 ⊙ v i) in cc)

@@ -1,8 +1,9 @@
 -- A sum of powers with weights not all zero has fewer roots than weights. Assumes nothing.
-use Rattle.std.proofs.Common.{◌≡◌, ℕ, zero, suc, ◌+◌, ◌-◌, ◌<◌, ◌≤◌, ◌≢◌, List, [], ◌∷◌, length, sym, refl, ap, ◌∙◌, inl, inr, arith}
+use Rattle.std.proofs.Common.{◌≡◌, ℕ, zero, suc, ◌+◌, ◌-◌, ◌<◌, ◌≤◌, Bool, true, ◌≢◌, sym, refl, ap, ◌∙◌, inl, inr, arith}
 use native.Mathlib.Nat as N
-use Rattle.std.proofs.lemmas.Bool.{cases_lt}
-use Rattle.algebra.proofs.Ring.{Whole, In, add_comm, add_assoc, add_zero, zero_add, mul_zero, mul_one, mul_comm, mul_left_comm, sum, sum_cong, sum_scale, power, no_divisor, equal, add_neg, ring}
+use Rattle.std.proofs.lemmas.Bool.{cases_Bool, cases_lt}
+use Rattle.algebra.specs.Showings.{count}
+use Rattle.algebra.proofs.Ring.{Whole, add_comm, add_zero, zero_add, mul_zero, mul_one, mul_comm, mul_left_comm, sum, sum_cong, sum_scale, power, no_divisor, equal, add_less, ring}
 use Rattle.algebra.proofs.Moments.{sum_first}
 
 module _ (W : Whole) where
@@ -44,15 +45,11 @@ module _ (W : Whole) where
       ∙ divide_term (f k) a d (value f a (suc k) (suc m)) (value (over f a e) (a ⊕ d) (suc k) m)
       ∙ ap (λ z. value f a k (suc (suc m)) ⊕ d ⊙ (value f a (suc k) z ⊕ (a ⊕ d) ⊙ value (over f a e) (a ⊕ d) (suc k) m)) (let z : suc m ≡ e - k = omega arith in z)
 
-  abbrev pub Distinct : List C → Type 0
-  Distinct [] = Prim.Unit
-  Distinct (r ∷ rs) = ((s : C) → In s rs → s ≢ r) × Distinct rs
-
   first_zero : (f a b : C) → f ⊕ a ⊙ b ≡ 𝟘 → b ≡ 𝟘 → f ≡ 𝟘
   first_zero f a b e z = sym (add_zero W f) ∙ ap (λ t. f ⊕ t) (sym (mul_zero W a) ∙ ap (λ t. a ⊙ t) (sym z)) ∙ e
 
   apart_sum : (r s : C) → r ⊕ (s ⊕ ⊖ r) ≡ s
-  apart_sum r s = add_comm W r (s ⊕ ⊖ r) ∙ add_assoc W s (⊖ r) r ∙ ap (λ t. s ⊕ t) (add_comm W (⊖ r) r ∙ add_neg W r) ∙ add_zero W s
+  apart_sum r s = add_comm W r (s ⊕ ⊖ r) ∙ add_less W s r
 
   -- another root is a root of what is left
   left : (f : ℕ → C) (r s : C) (e : ℕ) → s ≢ r → value f r 0 (suc e) ≡ 𝟘 → value f s 0 (suc e) ≡ 𝟘 → value (over f r e) s 0 e ≡ 𝟘
@@ -76,12 +73,14 @@ module _ (W : Whole) where
       at (suc u) m = first_zero (f (suc u)) r (over f r e (suc u))
           (ap (value f r (suc u)) (let z : suc (e - suc u) ≡ e - u = omega arith in z) ∙ none u (omega arith)) (none (suc u) (omega arith))
 
-  pub roots : (K : ℕ) (f : ℕ → C) (rs : List C) → Distinct rs → K ≤ length rs → ((r : C) → In r rs → value f r 0 K ≡ 𝟘) → (u : ℕ) → u < K → f u ≡ 𝟘
-  roots zero f rs d l h u m = absurd (omega arith)
-  roots (suc e) f [] d l h u m = absurd (omega arith)
-  roots (suc e) f (r ∷ rs) d l h u m =
-      from_over f r e (h r (inl refl)) (roots e (over f r e) rs d.1 (omega arith) (λ s i. left f r s e (d.0 s i) (h r (inl refl)) (h s (inr i)))) u m
-
-  -- with a weight that is not zero there are fewer roots than weights
-  pub few_roots : (K : ℕ) (f : ℕ → C) (u : ℕ) → u < K → f u ≢ 𝟘 → (rs : List C) → Distinct rs → ((r : C) → In r rs → value f r 0 K ≡ 𝟘) → length rs < K
-  few_roots K f u m n rs d h = elim (cases_lt (length rs) K) [ inl l ↦ l | inr l ↦ absurd (n (roots K f rs d l h u m)) ]
+  -- K weights whose value is zero at K or more different points are zero
+  pub roots : (n K : ℕ) (x f : ℕ → C) (p : ℕ → Bool) → ((i j : ℕ) → i < n → j < n → i ≢ j → x i ≢ x j) → K ≤ count n p
+      → ((j : ℕ) → j < n → p j ≡ true → value f (x j) 0 K ≡ 𝟘) → (u : ℕ) → u < K → f u ≡ 𝟘
+  roots n zero x f p apart l h u m = absurd (omega arith)
+  roots zero (suc e) x f p apart l h u m = absurd (omega arith)
+  roots (suc n) (suc e) x f p apart l h u m = elim (cases_Bool (p n)) [
+    | inl q ↦ from_over f (x n) e (h n (omega arith) q)
+        (roots n e x (over f (x n) e) p (λ i j li lj. apart i j (omega arith) (omega arith)) (let l' : suc e ≤ count n p + 1 = rw q at l in omega arith)
+        (λ j lj r. left f (x n) (x j) e (apart j n (omega arith) (omega arith) (omega arith)) (h n (omega arith) q) (h j (omega arith) r))) u m
+    | inr q ↦ roots n (suc e) x f p (λ i j li lj. apart i j (omega arith) (omega arith)) (let l' : suc e ≤ count n p + 0 = rw q at l in omega arith) (λ j lj. h j (omega arith)) u m
+  ]

@@ -1,14 +1,15 @@
 -- One showing: the doubtful squares one by one, then the strips. Assumes nothing.
-use Rattle.std.proofs.Common.{◌≡◌, ℕ, ◌+◌, ◌*◌, ◌/◌, ◌%◌, ◌<◌, ◌≤◌, Bool, true, false, ◌≢◌, ◌⊎◌, List, [], ◌∷◌, map, length, sym, refl, ap, ◌∙◌, inl, inr, mod-lt, div-lt_iff_lt-mul, div-add-mod', arith}
+use Rattle.std.proofs.Common.{◌≡◌, ℕ, ◌+◌, ◌*◌, ◌/◌, ◌%◌, ◌<◌, ◌≤◌, Bool, true, false, cond, eqb, ◌≢◌, ◌⊎◌, sym, refl, ap, ◌∙◌, inl, inr, mod-lt, div-lt_iff_lt-mul, div-add-mod', arith, eq-eqb}
 use native.Mathlib.Nat as N
-use native.Mathlib.Decide.{ℕ_discrete}
-use lib.Arith.{digits_div}
-use lib.ListN.{length-map}
+use lib.Arith.{digits_lt, digits_div}
+use Rattle.std.specs.List.{range_with_len}
+use Rattle.std.proofs.lemmas.Bool.{cases_eq, ne_eqb, cond-true, cond-false}
+use Rattle.std.proofs.lemmas.List.FromFn.{length-range_with_len, get_or-range_with_len}
 use Rattle.algebra.specs.Showings.{count}
-use Rattle.algebra.proofs.Members.{in_map, from_map}
-use Rattle.algebra.proofs.Ring.{Whole, In, mul_zero, mul_one, mul_assoc, mul_comm, zero_mul, sum, sum_cong, sum_zero, sum_add, sum_scale, sum_one, sum_rows, power, diffs, diffs_zero, diffs_nonzero, ring}
-use Rattle.algebra.proofs.Moments.{moment, peels, peels_moment, same}
-use Rattle.algebra.proofs.Listing.{range, length_range, in_range, from_range}
+use Rattle.algebra.proofs.Counting.{count_le}
+use Rattle.algebra.proofs.Ring.{Whole, less_none, mul_one, mul_assoc, mul_comm, zero_mul, zero_product, sum, sum_cong, sum_zero, sum_scale, sum_one, sum_rows, power, ring}
+use Rattle.algebra.proofs.Moments.{moment, moment_cong, moment_less, less_term, same}
+use Rattle.algebra.proofs.Rows.{struck, factor, struck_moment, factor_zero, factor_nonzero}
 
 module _ (W : Whole) (n m : ℕ) (α β : ℕ → W.C) where
   open W use {C, 𝟘, 𝟙, ◌⊕◌, ◌⊙◌, ⊖◌, inv, mul_inv}
@@ -35,77 +36,65 @@ module _ (W : Whole) (n m : ℕ) (α β : ℕ → W.C) where
       (λ κ l. ap (λ s. e (j * m + κ) ⊙ power W (α s) i ⊙ u (j * m + κ)) (digits_div j l) ∙ swap_term (e (j * m + κ)) (power W (α j) i) (u (j * m + κ)))
       ∙ sum_scale W m (power W (α j) i) (λ κ. e (j * m + κ) ⊙ u (j * m + κ)) ∙ mul_comm W (power W (α j) i) (column e u j))
 
-  -- peeled by squares, a row of sums is that of a word of one code to a strip
-  pub peeled_row : (e : ℕ → C) (T : ℕ → ℕ → C) (c : ℕ) → ((h i : ℕ) → h < m → i < c → T h i ≡ check e h i) → (bs : List C) → length bs < m
-      → (i : ℕ) → i < c → peels W bs (λ h. T h i) 0 ≡ moment W n α (column e (λ p. diffs W bs (β p))) i
+  -- peeled by the first r of the points y, a row of sums is that of a word of one code to a strip
+  pub peeled_row : (e : ℕ → C) (T : ℕ → ℕ → C) (c : ℕ) → ((h i : ℕ) → h < m → i < c → T h i ≡ check e h i) → (y : ℕ → C) (r : ℕ) → r < m
+      → (i : ℕ) → i < c → struck W y (λ _. true) (λ h. T h i) r 0 ≡ moment W n α (column e (λ p. factor W y (λ _. true) r (β p))) i
   unfolding power
-  peeled_row e T c is bs few i l =
-      peels_moment W (n * m) β (λ p. e p ⊙ power W (α (p / m)) i) m (λ h. T h i) (λ h k. is h i k l) bs 0 (omega arith)
-      ∙ sum_cong W (n * m) (λ p. e p ⊙ power W (α (p / m)) i ⊙ diffs W bs (β p) ⊙ 𝟙) (λ p. e p ⊙ power W (α (p / m)) i ⊙ diffs W bs (β p)) (λ p _. mul_one W (e p ⊙ power W (α (p / m)) i ⊙ diffs W bs (β p)))
-      ∙ regroup e (λ p. diffs W bs (β p)) i
-
-  -- a strip where each square is right or peeled away
-  pub column_zero : (e : ℕ → C) (bs : List C) (j : ℕ) → ((κ : ℕ) → κ < m → (e (j * m + κ) ≡ 𝟘) ⊎ In (β (j * m + κ)) bs) → column e (λ p. diffs W bs (β p)) j ≡ 𝟘
-  column_zero e bs j h = sum_zero W m (λ κ. e (j * m + κ) ⊙ diffs W bs (β (j * m + κ))) (λ κ l. dead (j * m + κ) (h κ l))
+  peeled_row e T c is y r few i l =
+      struck_moment W (n * m) β (λ p. e p ⊙ power W (α (p / m)) i) m (λ h. T h i) (λ h k. is h i k l) y (λ _. true) r 0 (omega (arith, count_le (λ _. true) r))
+      ∙ sum_cong W (n * m) (λ p. e p ⊙ power W (α (p / m)) i ⊙ u p ⊙ 𝟙) (λ p. e p ⊙ power W (α (p / m)) i ⊙ u p) (λ p _. mul_one W (e p ⊙ power W (α (p / m)) i ⊙ u p))
+      ∙ regroup e u i
     where
-      dead : (p : ℕ) → (e p ≡ 𝟘) ⊎ In (β p) bs → e p ⊙ diffs W bs (β p) ≡ 𝟘
-      dead p (inl z) = ap (λ t. t ⊙ diffs W bs (β p)) z ∙ zero_mul W (diffs W bs (β p))
-      dead p (inr i) = ap (λ t. e p ⊙ t) (diffs_zero W bs (β p) i) ∙ mul_zero W (e p)
+      u : ℕ → C
+      u p = factor W y (λ _. true) r (β p)
 
-  -- a strip where each square but one is right or peeled away
-  pub column_one : (e : ℕ → C) (bs : List C) (j κ : ℕ) → κ < m → ((κ' : ℕ) → κ' < m → κ' ≢ κ → (e (j * m + κ') ≡ 𝟘) ⊎ In (β (j * m + κ')) bs)
-      → column e (λ p. diffs W bs (β p)) j ≡ e (j * m + κ) ⊙ diffs W bs (β (j * m + κ))
-  column_one e bs j κ l h = sum_one W m κ (λ κ. e (j * m + κ) ⊙ diffs W bs (β (j * m + κ))) l (λ κ' k ne. dead (j * m + κ') (h κ' k ne))
-    where
-      dead : (p : ℕ) → (e p ≡ 𝟘) ⊎ In (β p) bs → e p ⊙ diffs W bs (β p) ≡ 𝟘
-      dead p (inl z) = ap (λ t. t ⊙ diffs W bs (β p)) z ∙ zero_mul W (diffs W bs (β p))
-      dead p (inr i) = ap (λ t. e p ⊙ t) (diffs_zero W bs (β p) i) ∙ mul_zero W (e p)
+  -- a strip where each word is right or weighs nothing
+  pub column_zero : (e u : ℕ → C) (j : ℕ) → ((κ : ℕ) → κ < m → (e (j * m + κ) ≡ 𝟘) ⊎ (u (j * m + κ) ≡ 𝟘)) → column e u j ≡ 𝟘
+  column_zero e u j h = sum_zero W m (λ κ. e (j * m + κ) ⊙ u (j * m + κ)) (λ κ l. zero_product W (e (j * m + κ)) (u (j * m + κ)) (h κ l))
 
-  away_term : (e d a b : C) → (e ⊕ ⊖ d) ⊙ a ⊙ b ≡ e ⊙ a ⊙ b ⊕ ⊖ 𝟙 ⊙ (d ⊙ a ⊙ b)
-  away_term e d a b = simp ring
+  -- a strip where each word but one is
+  pub column_one : (e u : ℕ → C) (j κ : ℕ) → κ < m → ((κ' : ℕ) → κ' < m → κ' ≢ κ → (e (j * m + κ') ≡ 𝟘) ⊎ (u (j * m + κ') ≡ 𝟘))
+      → column e u j ≡ e (j * m + κ) ⊙ u (j * m + κ)
+  column_one e u j κ l h = sum_one W m κ (λ κ. e (j * m + κ) ⊙ u (j * m + κ)) l (λ κ' k ne. zero_product W (e (j * m + κ')) (u (j * m + κ')) (h κ' k ne))
 
-  minus : (a b : C) → a ⊕ ⊖ 𝟙 ⊙ b ≡ a ⊕ ⊖ b
-  minus a b = simp ring
-
-  less_none : (a : C) → a ≡ a ⊕ ⊖ 𝟘
-  less_none a = simp ring
+  -- the sums of a difference
+  pub check_less : (e d : ℕ → C) (h i : ℕ) → check (λ p. e p ⊕ ⊖ d p) h i ≡ check e h i ⊕ ⊖ check d h i
+  check_less e d h i =
+      moment_cong W (n * m) β (λ p. (e p ⊕ ⊖ d p) ⊙ power W (α (p / m)) i) (λ p. e p ⊙ power W (α (p / m)) i ⊕ ⊖ (d p ⊙ power W (α (p / m)) i)) h
+      (λ p _. less_term W (e p) (d p) (power W (α (p / m)) i))
+      ∙ moment_less W (n * m) β (λ p. e p ⊙ power W (α (p / m)) i) (λ p. d p ⊙ power W (α (p / m)) i) h
 
   -- one square of the word changed by x
   pub take_out : (e e' : ℕ → C) (s : ℕ) (x : C) → s < n * m → e' s ≡ e s ⊕ ⊖ x → ((p : ℕ) → p < n * m → p ≢ s → e' p ≡ e p)
       → (h i : ℕ) → check e' h i ≡ check e h i ⊕ ⊖ (x ⊙ power W (α (s / m)) i ⊙ power W (β s) h)
   take_out e e' s x l at other h i =
-      sum_cong W (n * m) (λ p. e' p ⊙ power W (α (p / m)) i ⊙ power W (β p) h) (λ p. term p ⊕ ⊖ 𝟙 ⊙ part p) each
-      ∙ sum_add W (n * m) term (λ p. ⊖ 𝟙 ⊙ part p)
-      ∙ ap (λ t. check e h i ⊕ t) (sum_scale W (n * m) (⊖ 𝟙) part)
-      ∙ minus (check e h i) (sum W (n * m) part)
-      ∙ ap (λ t. check e h i ⊕ ⊖ t) (sum_one W (n * m) s part l (λ p k ne. part_other p ne) ∙ part_at)
+      moment_cong W (n * m) β (λ p. e' p ⊙ power W (α (p / m)) i) (λ p. (e p ⊕ ⊖ off p) ⊙ power W (α (p / m)) i) h (λ p k. ap (λ t. t ⊙ power W (α (p / m)) i) (changed p k))
+      ∙ check_less e off h i
+      ∙ ap (λ t. check e h i ⊕ ⊖ t) (sum_one W (n * m) s part l (λ p k ne. part_of p 𝟘 (off_other p ne) ∙ nil p) ∙ part_of s x off_here)
     where
-      term : ℕ → C
-      term p = e p ⊙ power W (α (p / m)) i ⊙ power W (β p) h
-
       off : ℕ → C
-      off p = elim (ℕ_discrete p s) [ yes _ ↦ x | no _ ↦ 𝟘 ]
+      off p = cond (eqb p s) x 𝟘
+
+      off_here : off s ≡ x
+      off_here = cond-true (eqb s s) x 𝟘 (eq-eqb s s refl)
+
+      off_other : (p : ℕ) → p ≢ s → off p ≡ 𝟘
+      off_other p ne = cond-false (eqb p s) x 𝟘 (ne_eqb p s ne)
 
       part : ℕ → C
       part p = off p ⊙ power W (α (p / m)) i ⊙ power W (β p) h
 
-      part_at : part s ≡ x ⊙ power W (α (s / m)) i ⊙ power W (β s) h
-      part_at = elim (ℕ_discrete s s) as (λ d. (elim d [ yes _ ↦ x | no _ ↦ 𝟘 ]) ⊙ power W (α (s / m)) i ⊙ power W (β s) h ≡ x ⊙ power W (α (s / m)) i ⊙ power W (β s) h) [ yes _ ↦ refl | no ne ↦ absurd (ne refl) ]
+      part_of : (p : ℕ) (z : C) → off p ≡ z → part p ≡ z ⊙ power W (α (p / m)) i ⊙ power W (β p) h
+      part_of p z e = ap (λ t. t ⊙ power W (α (p / m)) i ⊙ power W (β p) h) e
 
-      part_other : (p : ℕ) → p ≢ s → part p ≡ 𝟘
-      part_other p ne = elim (ℕ_discrete p s) as (λ d. (elim d [ yes _ ↦ x | no _ ↦ 𝟘 ]) ⊙ power W (α (p / m)) i ⊙ power W (β p) h ≡ 𝟘) [
-        | yes q ↦ absurd (ne q)
-        | no _ ↦ ap (λ t. t ⊙ power W (β p) h) (zero_mul W (power W (α (p / m)) i)) ∙ zero_mul W (power W (β p) h)
-      ]
+      nil : (p : ℕ) → 𝟘 ⊙ power W (α (p / m)) i ⊙ power W (β p) h ≡ 𝟘
+      nil p = simp zero_mul
 
       changed : (p : ℕ) → p < n * m → e' p ≡ e p ⊕ ⊖ off p
-      changed p k = elim (ℕ_discrete p s) as (λ d. e' p ≡ e p ⊕ ⊖ (elim d [ yes _ ↦ x | no _ ↦ 𝟘 ])) [
-        | yes q ↦ ap e' q ∙ at ∙ ap (λ t. e t ⊕ ⊖ x) (sym q)
-        | no ne ↦ other p k ne ∙ less_none (e p)
+      changed p k = elim (cases_eq p s) [
+        | inl q ↦ rw q (at ∙ ap (λ t. e s ⊕ ⊖ t) (sym off_here))
+        | inr ne ↦ other p k ne ∙ sym (less_none W (e p) (off p) (off_other p ne))
       ]
-
-      each : (p : ℕ) → p < n * m → e' p ⊙ power W (α (p / m)) i ⊙ power W (β p) h ≡ term p ⊕ ⊖ 𝟙 ⊙ part p
-      each p k = ap (λ t. t ⊙ power W (α (p / m)) i ⊙ power W (β p) h) (changed p k) ∙ away_term (e p) (off p) (power W (α (p / m)) i) (power W (β p) h)
 
   -- a row of sums is that of the strips' sums
   pub strip_row : (e : ℕ → C) (h i : ℕ) → check e h i ≡ moment W n α (column e (λ p. power W (β p) h)) i
@@ -114,12 +103,13 @@ module _ (W : Whole) (n m : ℕ) (α β : ℕ → W.C) where
   -- a strip is what its sums say
   pub strip_same : (e : ℕ → C) (j : ℕ) (x : ℕ → C) → ((κ κ' : ℕ) → κ < m → κ' < m → κ ≢ κ' → β (j * m + κ) ≢ β (j * m + κ'))
       → ((h : ℕ) → h < m → moment W m (λ κ. β (j * m + κ)) x h ≡ column e (λ p. power W (β p) h) j) → (κ : ℕ) → κ < m → x κ ≡ e (j * m + κ)
-  strip_same e j x apart sums = same W m m (λ κ. β (j * m + κ)) x (λ κ. e (j * m + κ)) apart sums (range 0 m) (omega (arith, length_range 0 m))
-      (λ s i. omega (arith, from_range 0 m s i)) (λ s l. inr (in_range 0 m s (omega arith) (omega arith)))
+  strip_same e j x apart sums = same W m m (λ κ. β (j * m + κ)) x (λ κ. e (j * m + κ)) apart sums
+      (range_with_len 0 m) (omega (arith, length-range_with_len 0 m)) (λ s d l. let k : s < m = omega (arith, length-range_with_len 0 m) in omega (arith, get_or-range_with_len 0 m s d k))
+      (λ s l. inr (s, omega (arith, length-range_with_len 0 m), get_or-range_with_len 0 m s s l ∙ N.zero-add s))
 
-  -- e is zero but for the strips that are gone or wrong and the squares of a list
-  abbrev pub Support : (ℕ → C) → (ℕ → Bool) → (ℕ → Bool) → List ℕ → Type 0
-  Support e gone wrong squares = (p : ℕ) → p < n * m → (e p ≡ 𝟘) ⊎ ((gone (p / m) ≡ true) ⊎ ((wrong (p / m) ≡ true) ⊎ In p squares))
+  -- outside the strips that are gone or wrong, e is zero but at listed places
+  abbrev pub Support : (ℕ → C) → (ℕ → Bool) → (ℕ → Bool) → (ℕ → Type 0) → Type 0
+  Support e gone wrong listed = (p : ℕ) → p < n * m → gone (p / m) ≡ false → wrong (p / m) ≡ false → (e p ≡ 𝟘) ⊎ listed p
 
   -- y is each word with the sums v that is zero but for the places `gone` and a few wrong ones
   abbrev pub Answer : ℕ → (ℕ → Bool) → (ℕ → C) → (ℕ → C) → Type 0
@@ -127,64 +117,47 @@ module _ (W : Whole) (n m : ℕ) (α β : ℕ → W.C) where
       → 2 * count n wrong + count n gone ≤ c → (j : ℕ) → j < n → y j ≡ w j
 
   module _ (pos : 0 < m) (c : ℕ) (gone wrong : ℕ → Bool) (e : ℕ → C) (T : ℕ → ℕ → C) (is : (h i : ℕ) → h < m → i < c → T h i ≡ check e h i) where
-    -- one doubtful square: its error, if its strip is neither gone nor wrong
-    pub doubt : (s : ℕ) (rest : List ℕ) → s < n * m → Support e gone wrong (s ∷ rest) → length rest < m → ((r : ℕ) → In r rest → β s ≢ β r)
+    -- square κ of a strip that is neither gone nor wrong
+    clean : (listed : ℕ → Type 0) → Support e gone wrong listed → (j κ : ℕ) → j < n → κ < m → gone j ≡ false → wrong j ≡ false → (e (j * m + κ) ≡ 𝟘) ⊎ listed (j * m + κ)
+    clean listed support j κ l k g w = support (j * m + κ) (digits_lt l k) (ap gone (digits_div j k) ∙ g) (ap wrong (digits_div j k) ∙ w)
+
+    -- one doubtful square: its error, if its strip is neither gone nor wrong; the squares f are the other doubtful ones
+    pub doubt : (s : ℕ) (f : ℕ → ℕ) (r : ℕ) → s < n * m → Support e gone wrong (λ p. (p ≡ s) ⊎ ((t : ℕ) × (t < r) × (f t ≡ p))) → r < m → ((t : ℕ) → t < r → β s ≢ β (f t))
         → (gone' : ℕ → Bool) → ((j : ℕ) → j < n → gone' j ≡ false → (gone j ≡ false) × (j ≢ s / m)) → 2 * count n wrong + count n gone' ≤ c
-        → (y : ℕ → C) → Answer c gone' (λ i. peels W (map β rest) (λ h. T h i) 0) y
-        → gone (s / m) ≡ false → wrong (s / m) ≡ false → y (s / m) ⊙ inv (diffs W (map β rest) (β s)) ≡ e s
-    doubt s rest l support few apart gone' gone'_is room y answer g w =
-        let bs = map β rest in
-        let u : ℕ → C = λ p. diffs W bs (β p) in
+        → (y : ℕ → C) → Answer c gone' (λ i. struck W (λ t. β (f t)) (λ _. true) (λ h. T h i) r 0) y
+        → gone (s / m) ≡ false → wrong (s / m) ≡ false → y (s / m) ⊙ inv (factor W (λ t. β (f t)) (λ _. true) r (β s)) ≡ e s
+    doubt s f r l support few apart gone' gone'_is room y answer g w =
         let j = s / m in
         let κ = s % m in
         let at : j * m + κ ≡ s = div-add-mod' s m in
         let lj : j < n = (div-lt_iff_lt-mul pos).1 l in
-        let fewer : length bs < m = rw length-map few in
-        let yj = answer wrong (column e u) (λ i k. peeled_row e T c is bs fewer i k) zeros room j lj in
-        let col = column_one e bs j κ (mod-lt s pos) (λ κ' k ne. elim (clean (j * m + κ') j (omega (arith, N.mul-le-mul_right m lj, N.suc-mul j m)) (digits_div j k) g w) [
+        let yj = answer wrong (column e u) (λ i k. peeled_row e T c is (λ t. β (f t)) r few i k) zeros room j lj in
+        let col = column_one e u j κ (mod-lt s pos) (λ κ' k ne. elim (clean (λ p. (p ≡ s) ⊎ ((t : ℕ) × (t < r) × (f t ≡ p))) support j κ' lj k g w) [
           | inl z ↦ inl z
           | inr (inl q) ↦ absurd (ne (omega arith))
-          | inr (inr i) ↦ inr (in_map β (j * m + κ') rest i)
+          | inr (inr i) ↦ inr (u_zero (j * m + κ') i)
         ]) in
         let full = yj ∙ col ∙ ap (λ p. e p ⊙ u p) at in
-        ap (λ t. t ⊙ inv (u s)) full ∙ mul_assoc W (e s) (u s) (inv (u s)) ∙ ap (λ t. e s ⊙ t) (mul_inv (u s) (diffs_nonzero W bs (β s) (from_map β (λ b. β s ≢ b) rest apart))) ∙ mul_one W (e s)
+        ap (λ t. t ⊙ inv (u s)) full ∙ mul_assoc W (e s) (u s) (inv (u s))
+        ∙ ap (λ t. e s ⊙ t) (mul_inv (u s) (factor_nonzero W (λ t. β (f t)) (λ _. true) r (β s) (λ t k _. apart t k))) ∙ mul_one W (e s)
       where
-        never : {X : Type 0} → true ≡ false → X
-        never z = let q : ◌≡◌ {A = ℕ} 0 1 = cc in absurd (omega arith)
+        u : ℕ → C
+        u p = factor W (λ t. β (f t)) (λ _. true) r (β p)
 
-        clean : (p j : ℕ) → p < n * m → p / m ≡ j → gone j ≡ false → wrong j ≡ false → (e p ≡ 𝟘) ⊎ ((p ≡ s) ⊎ In p rest)
-        clean p j k q g w = elim (support p k) [
-          | inl z ↦ inl z
-          | inr (inl z) ↦ never (sym z ∙ ap gone q ∙ g)
-          | inr (inr (inl z)) ↦ never (sym z ∙ ap wrong q ∙ w)
-          | inr (inr (inr i)) ↦ inr i
-        ]
+        u_zero : (p : ℕ) → (t : ℕ) × (t < r) × (f t ≡ p) → u p ≡ 𝟘
+        u_zero p i = factor_zero W (λ t. β (f t)) (λ _. true) r (β p) i.0 i.1 refl (ap β (sym i.2))
 
-        zeros : (j : ℕ) → j < n → gone' j ≡ false → wrong j ≡ false → column e (λ p. diffs W (map β rest) (β p)) j ≡ 𝟘
-        zeros j lj g w = column_zero e (map β rest) j (λ κ k. elim (clean (j * m + κ) j (omega (arith, N.mul-le-mul_right m lj, N.suc-mul j m)) (digits_div j k) (gone'_is j lj g).0 w) [
+        zeros : (j : ℕ) → j < n → gone' j ≡ false → wrong j ≡ false → column e u j ≡ 𝟘
+        zeros j lj g w = column_zero e u j (λ κ k. elim (clean (λ p. (p ≡ s) ⊎ ((t : ℕ) × (t < r) × (f t ≡ p))) support j κ lj k (gone'_is j lj g).0 w) [
           | inl z ↦ inl z
           | inr (inl q) ↦ absurd ((gone'_is j lj g).1 (sym (digits_div j k) ∙ ap (λ p. p / m) q))
-          | inr (inr i) ↦ inr (in_map β (j * m + κ) rest i)
+          | inr (inr i) ↦ inr (u_zero (j * m + κ) i)
         ])
 
     -- no doubtful square left: the rows give the strips' sums, and these the strips
-    pub strips : Support e gone wrong [] → 2 * count n wrong + count n gone ≤ c → (y : ℕ → ℕ → C) → ((h : ℕ) → h < m → Answer c gone (λ i. T h i) (y h))
+    pub strips : Support e gone wrong (λ _. ⊥) → 2 * count n wrong + count n gone ≤ c → (y : ℕ → ℕ → C) → ((h : ℕ) → h < m → Answer c gone (λ i. T h i) (y h))
         → (j : ℕ) → j < n → (x : ℕ → C) → ((κ κ' : ℕ) → κ < m → κ' < m → κ ≢ κ' → β (j * m + κ) ≢ β (j * m + κ'))
         → ((h : ℕ) → h < m → moment W m (λ κ. β (j * m + κ)) x h ≡ y h j) → (κ : ℕ) → κ < m → x κ ≡ e (j * m + κ)
     strips support room y answers j l x apart sums = strip_same e j x apart
-        (λ h k. sums h k ∙ answers h k wrong (column e (λ p. power W (β p) h)) (λ i q. is h i k q ∙ strip_row e h i) (zeros h) room j l)
-      where
-        never : {X : Type 0} → true ≡ false → X
-        never z = let q : ◌≡◌ {A = ℕ} 0 1 = cc in absurd (omega arith)
-
-        clean : (p j : ℕ) → p < n * m → p / m ≡ j → gone j ≡ false → wrong j ≡ false → e p ≡ 𝟘
-        clean p j k q g w = elim (support p k) [
-          | inl z ↦ z
-          | inr (inl z) ↦ never (sym z ∙ ap gone q ∙ g)
-          | inr (inr (inl z)) ↦ never (sym z ∙ ap wrong q ∙ w)
-          | inr (inr (inr i)) ↦ absurd i
-        ]
-
-        zeros : (h j : ℕ) → j < n → gone j ≡ false → wrong j ≡ false → column e (λ p. power W (β p) h) j ≡ 𝟘
-        zeros h j lj g w = sum_zero W m (λ κ. e (j * m + κ) ⊙ power W (β (j * m + κ)) h)
-            (λ κ k. ap (λ t. t ⊙ power W (β (j * m + κ)) h) (clean (j * m + κ) j (omega (arith, N.mul-le-mul_right m lj, N.suc-mul j m)) (digits_div j k) g w) ∙ zero_mul W (power W (β (j * m + κ)) h))
+        (λ h k. sums h k ∙ answers h k wrong (column e (λ p. power W (β p) h)) (λ i q. is h i k q ∙ strip_row e h i)
+        (λ j lj g w. column_zero e (λ p. power W (β p) h) j (λ κ k. elim (clean (λ _. ⊥) support j κ lj k g w) [ inl z ↦ inl z | inr z ↦ absurd z ])) room j l)

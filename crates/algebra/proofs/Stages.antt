@@ -1,9 +1,9 @@
 -- A short sequence of weights that takes a sequence to zero, found step by step. Assumes nothing.
-use Rattle.std.proofs.Common.{◌≡◌, ℕ, suc, ◌+◌, ◌-◌, ◌<◌, ◌≤◌, cond, ltb, ◌≢◌, sym, refl, ap, ◌∙◌, arith}
+use Rattle.std.proofs.Common.{◌≡◌, ℕ, suc, ◌+◌, ◌-◌, ◌<◌, ◌≤◌, cond, ltb, ◌≢◌, sym, refl, ap, ◌∙◌, inr, arith}
 use native.Mathlib.Nat as N
 use native.Mathlib.Decide.{ℕ_discrete}
 use Rattle.std.proofs.lemmas.Bool.{le-ltb, lt-ltb}
-use Rattle.algebra.proofs.Ring.{Whole, add_zero, zero_add, mul_zero, mul_one, mul_comm, zero_mul, neg_mul, neg_zero, add_neg, sum, sum_cong, sum_zero, sum_add, sum_scale, sum_append, ring}
+use Rattle.algebra.proofs.Ring.{Whole, add_zero, zero_add, mul_zero, mul_one, mul_comm, zero_mul, neg_mul, zero_product, less_self, less_none, sum, sum_cong, sum_zero, sum_add, sum_scale, sum_append, ring}
 
 -- f slid up by k places
 abbrev pub shift : (W : Whole) → ℕ → (ℕ → W.C) → ℕ → W.C
@@ -76,10 +76,10 @@ module _ (W : Whole) (K : ℕ) (σ : ℕ → W.C) where
       ∙ add_zero W (sum W (suc L) F)
 
   less_zero : (a d b : C) → b ≡ 𝟘 → a ⊕ ⊖ (d ⊙ b) ≡ a
-  less_zero a d b e = simp (e, mul_zero, neg_zero, add_zero)
+  less_zero a d b e = less_none W a (d ⊙ b) (zero_product W d b (inr e))
 
   less_same : (a d b : C) → a ≡ d → b ≡ 𝟙 → a ⊕ ⊖ (d ⊙ b) ≡ 𝟘
-  less_same a d b e e' = ap (λ t. t ⊕ ⊖ (d ⊙ b)) e ∙ simp (e', mul_one, add_neg)
+  less_same a d b e e' = less_self W a (d ⊙ b) (e ∙ sym (ap (λ t. d ⊙ t) e' ∙ mul_one W d))
 
   pub keep : {L r : ℕ} {f g : ℕ → C} → Stage W K σ L r f g → suc r < K → app W K σ f r ≡ 𝟘 → Stage W K σ L (suc r) f g
   keep {L} {r} {f} {g} s l e = record {

@@ -4,36 +4,26 @@
 ghost use Rattle.algebra.specs.Statements.{FrameUnique, FitUnique, RecordsApart, ExactFits, FitsHigher};
 
 /// A record has at most one frame.
-pub fn frame_is_unique() -> u8
+pub fn frame_is_unique()
     ensures { FrameUnique }
-{
-    0
-}
+{}
 
 /// Whatever is shown, two frames that fit it are one frame, under every silent limit.
-pub fn fit_is_unique() -> u8
+pub fn fit_is_unique()
     ensures { FitUnique }
-{
-    0
-}
+{}
 
 /// Whatever is shown, no two different records have frames that fit it.
-pub fn records_stay_apart() -> u8
+pub fn records_stay_apart()
     ensures { RecordsApart }
-{
-    0
-}
+{}
 
 /// A frame that is shown exactly fits, with all three counts 0.
-pub fn exact_showing_fits() -> u8
+pub fn exact_showing_fits()
     ensures { ExactFits }
-{
-    0
-}
+{}
 
 /// What fits under a silent limit fits under every higher one.
-pub fn higher_limit_fits() -> u8
+pub fn higher_limit_fits()
     ensures { FitsHigher }
-{
-    0
-}
+{}

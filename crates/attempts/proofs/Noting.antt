@@ -1,48 +1,53 @@
--- The noted squares with one clear square more, for one attempt. Assumes nothing.
-use Rattle.std.proofs.Common.{◌≡◌, ℕ, ◌+◌, ◌*◌, ◌<◌, ◌≤◌, true, false, ◌⊎◌, List, length, get_or, take, set, is_some, Some, None, Option, sym, refl, ap, ◌∙◌, subst, inl, inr, arith, length-set, get_or-set_other, MatchOption}
+-- The doubtful squares, and these with one clear square more, for one attempt; what the attempts answer together. Assumes nothing.
+use Rattle.std.proofs.Common.{◌≡◌, ℕ, ◌+◌, ◌*◌, ◌<◌, ◌≤◌, true, false, ◌⊎◌, List, [], ◌∷◌, ◌++◌, length, map, take, set, is_some, Some, None, Option, sym, refl, ap, ◌∙◌, subst, inl, inr, arith, MatchOption}
 use Rattle.std.proofs.lemmas.Bool.{true≢false}
-use Rattle.std.proofs.lemmas.List.{take-set, length-take-le}
+use Rattle.std.proofs.lemmas.List.{length-append, length-map, get_or-map, take_at}
+use Rattle.std.proofs.lemmas.Grind.{take-set_at}
 use Rattle.laws.specs.Ops.{Ops}
 use Rattle.algebra.specs.Frames.{square_locator, IsFrame}
 use Rattle.algebra.specs.Showings.{Showing, doubtful_squares, Fits}
-use Rattle.fitting.specs.declared.counts.Counts.{Counts}
-use Rattle.frame.specs.Tables.{Powers}
-use Rattle.correction.specs.Nearing.{Listed}
+use Rattle.attempts.specs.declared.attempt.Fit.{Fit}
 use Rattle.correction.specs.Tries.{clear, Covers, Doubted, Missed, Readout}
-use Rattle.correction.proofs.Lists.{doubted_listed, doubted_covers, more_covers, more_listed}
+use Rattle.correction.proofs.Lists.{doubted_covers, more_covers, more_listed}
 use Rattle.correction.proofs.Silent.{fit_tried}
-use Rattle.attempts.specs.Attempts.{Hit, Tried, Noted, Searched, Answered}
+use Rattle.candidates.specs.Chosen.{Chosen}
+use Rattle.attempts.specs.Attempts.{HitBy, Tried, Searched, Answered}
 
 -- what an attempt says of one square that its list covers
-pub tried_at : (F : Ops) (limit m n c : ℕ) (w : Showing) (base squares xs : List ℕ) (r : Option Counts) → Tried F limit m n c w base squares xs r → (extra : ℕ) → Covers m n w extra squares
-    → MatchOption r (Missed F limit m n c w base extra) (Hit F limit m n c w xs)
-tried_at F limit m n c w base squares xs None h extra covers = h extra covers
-tried_at F limit m n c w base squares xs (Some k) h extra covers = h
+pub tried_at : (F : Ops) (limit m n c : ℕ) (w : Showing) (base squares : List ℕ) (r : Option Fit) → Tried F limit m n c w base squares r → (extra : ℕ) → Covers m n w extra squares
+    → MatchOption r (Missed F limit m n c w base extra) (HitBy F limit m n c w)
+tried_at F limit m n c w base squares None h extra covers = h extra covers
+tried_at F limit m n c w base squares (Some fit) h extra covers = h
 
-module _ (F : Ops) (m n : ℕ) (w : Showing) (d : ℕ) (squares points : List ℕ) (noted : Noted F m n w d squares points) where
-  pub noted_listed : Listed F m n (take d squares) (take d points)
-  noted_listed = doubted_listed m n w F squares points d (omega (arith, noted.few, noted.squares_size)) noted.doubted noted.few (omega (arith, noted.few, noted.points_size)) noted.located
+-- the doubtful squares may be listed for an attempt
+pub doubted_chosen : (m n : ℕ) (w : Showing) (squares : List ℕ) → Doubted m n w squares → length squares ≤ m → Chosen m n squares
+doubted_chosen m n w squares doubted few = record { few = few; places = doubted.places; apart = doubted.apart }
 
-  pub noted_covers : Covers m n w (n * m) (take d squares)
-  noted_covers = doubted_covers m n w (take d squares) noted.doubted
+-- and so they may with one clear square more
+module _ (m n : ℕ) (w : Showing) (doubtful : List ℕ) (doubted : Doubted m n w doubtful) (square : ℕ) (there : square < n * m) (sure : clear m w square ≡ true) (F : Ops) where
+  -- a list with a place for it
+  abbrev room : List ℕ
+  room = doubtful ++ 0 ∷ []
 
-  module _ (square : ℕ) (locators : List ℕ) (powers : Powers F F.generator locators) (size : length locators ≡ n * m) (room : d < m) (there : square < n * m) (sure : clear m w square ≡ true) where
-    pub square_listed : Listed F m n (take (d + 1) (set squares d square)) (take (d + 1) (set points d (get_or locators square 0)))
-    square_listed = more_listed m n w F squares points d (omega (arith, noted.few, noted.squares_size)) noted.doubted square (get_or locators square 0)
-        (omega (arith, noted.squares_size)) there sure (omega arith) (omega (arith, noted.points_size)) (powers square (omega arith)) noted.located
+  size : length room ≡ length doubtful + 1
+  size = length-append doubtful (0 ∷ [])
 
-    pub square_covers : Covers m n w square (take (d + 1) (set squares d square))
-    square_covers = more_covers m n w F squares points d (omega (arith, noted.few, noted.squares_size)) noted.doubted square (get_or locators square 0)
-        (omega (arith, noted.squares_size)) there sure
+  front : take (length doubtful) room ≡ doubtful
+  front = take_at doubtful (0 ∷ []) (length doubtful) refl
 
-    pub square_noted : Noted F m n w d (set squares d square) (set points d (get_or locators square 0))
-    square_noted = record {
-      doubted = subst (λ (zs : List ℕ). Doubted m n w zs) (sym (take-set squares d square)) noted.doubted;
-      located = λ i l. get_or-set_other points d i (get_or locators square 0) 0 (λ e. omega arith) ∙ noted.located i l ∙ ap (square_locator F) (sym (get_or-set_other squares d i square 0 (λ e. omega arith)));
-      few = noted.few;
-      squares_size = length-set squares d square ∙ noted.squares_size;
-      points_size = length-set points d (get_or locators square 0) ∙ noted.points_size;
-    }
+  filled : take (length doubtful + 1) (set room (length doubtful) square) ≡ doubtful ++ square ∷ []
+  filled = take-set_at room (length doubtful) (length doubtful + 1) square refl (omega (arith, size)) ∙ ap (λ zs. zs ++ square ∷ []) front
+
+  pub more_chosen : length doubtful < m → Chosen m n (doubtful ++ square ∷ [])
+  more_chosen few =
+      let points = map (square_locator F) room in
+      let listed = more_listed m n w F room points (length doubtful) (omega (arith, size)) (subst (λ (zs : List ℕ). Doubted m n w zs) (sym front) doubted) square (square_locator F square)
+      (omega (arith, size)) there sure (omega arith) (omega (arith, size, length-map room (square_locator F))) refl (λ i l. get_or-map (square_locator F) room i 0 0 (omega (arith, size))) in
+      subst (λ (zs : List ℕ). Chosen m n zs) filled (record { few = listed.few; places = listed.places; apart = listed.apart })
+
+  pub covers_more : Covers m n w square (doubtful ++ square ∷ [])
+  covers_more = subst (λ (zs : List ℕ). Covers m n w square zs) filled
+      (more_covers m n w F room room (length doubtful) (omega (arith, size)) (subst (λ (zs : List ℕ). Doubted m n w zs) (sym front) doubted) square 0 (omega (arith, size)) there sure)
 
 -- no attempt hit
 pub none_fits : (F : Ops) (limit m n c : ℕ) (w : Showing) (base : List ℕ) → limit ≤ 1 → Readout m n w base → Missed F limit m n c w base (n * m)
@@ -50,22 +55,19 @@ pub none_fits : (F : Ops) (limit m n c : ℕ) (w : Showing) (base : List ℕ) �
     → (ys : List ℕ) → IsFrame F m n c ys → Fits limit m n c w ys → ⊥
 none_fits F limit m n c w base one read none each ys frame fits = fit_tried F m n c w base ys read frame limit one fits none each
 
-pub none_of : (r : Option Counts) → is_some r ≡ false → r ≡ None
+pub none_of : (r : Option Fit) → is_some r ≡ false → r ≡ None
 none_of None e = refl
-none_of (Some k) e = absurd (true≢false e)
+none_of (Some fit) e = absurd (true≢false e)
 
-module _ (F : Ops) (limit : ℕ) (one : limit ≤ 1) (m n c : ℕ) (w : Showing) (base : List ℕ) (read : Readout m n w base) (d : ℕ) (squares points : List ℕ) (noted : Noted F m n w d squares points) where
-  number : d ≡ doubtful_squares m n w
-  number = sym (length-take-le d squares (omega (arith, noted.few, noted.squares_size))) ∙ noted.doubted.number
-
+module _ (F : Ops) (limit : ℕ) (one : limit ≤ 1) (m n c : ℕ) (w : Showing) (base : List ℕ) (read : Readout m n w base) (doubtful : List ℕ) (doubted : Doubted m n w doubtful) where
   -- no silent square, or no room for one
-  pub answered_early : (xs : List ℕ) (r : Option Counts) → Tried F limit m n c w base (take d squares) xs r → (is_some r ≡ true) ⊎ (m < 2 + d) → Answered F limit m n c w xs r
-  answered_early xs None h (inl e) = absurd (true≢false (sym e))
-  answered_early xs None h (inr l) = none_fits F limit m n c w base one read (h (n * m) (noted_covers F m n w d squares points noted)) (λ k p _ _. absurd (omega (arith, number)))
-  answered_early xs (Some k) h e = h
+  pub answered_early : (r : Option Fit) → Tried F limit m n c w base doubtful r → (is_some r ≡ true) ⊎ (m < 2 + length doubtful) → Answered F limit m n c w r
+  answered_early None h (inl e) = absurd (true≢false (sym e))
+  answered_early None h (inr l) = none_fits F limit m n c w base one read (h (n * m) (doubted_covers m n w doubtful doubted)) (λ k p _ _. absurd (omega (arith, doubted.number)))
+  answered_early (Some fit) h e = h
 
-  pub answered_late : (ys : List ℕ) (first : Option Counts) → Tried F limit m n c w base (take d squares) ys first → is_some first ≡ false
-      → (xs : List ℕ) (r : Option Counts) → Searched F limit m n c w base (n * m) xs r → Answered F limit m n c w xs r
-  answered_late ys None h e xs None s = none_fits F limit m n c w base one read (h (n * m) (noted_covers F m n w d squares points noted)) (λ k. s)
-  answered_late ys None h e xs (Some k) s = s
-  answered_late ys (Some k) h e xs r s = absurd (true≢false e)
+  pub answered_late : (first : Option Fit) → Tried F limit m n c w base doubtful first → is_some first ≡ false
+      → (r : Option Fit) → Searched F limit m n c w base (n * m) r → Answered F limit m n c w r
+  answered_late None h e None s = none_fits F limit m n c w base one read (h (n * m) (doubted_covers m n w doubtful doubted)) (λ k. s)
+  answered_late None h e (Some fit) s = s
+  answered_late (Some fit) h e r s = absurd (true≢false e)

@@ -1,10 +1,11 @@
 -- What codes and marks show, as a field of order q reads it.
---   shows     the reading of what the codes and marks show
---   Sized     codes and marks of the lengths that n strips of m squares have, all fit to be places in a byte
---   Ranked    the first places of a list have f at each doubtful square below k, in their order
+--   shows           the reading of what the codes and marks show
+--   Sized           codes and marks of the lengths that n strips of m squares have, all fit to be places in a byte
+--   doubtful_list   the doubtful squares, in their order
 -- Assumes nothing.
-use Rattle.std.specs.Prelude.{◌≡◌, ℕ, ◌*◌, ◌<◌, ◌≤◌, true, List, length, slice_index}
-use Rattle.algebra.specs.Showings.{Showing, reading, count, doubt}
+use Rattle.std.specs.Prelude.{◌≡◌, ℕ, ◌*◌, ◌<◌, ◌≤◌, List, length}
+use Rattle.std.specs.List.{filter, range_with_len}
+use Rattle.algebra.specs.Showings.{Showing, reading, doubt}
 use Rattle.fitting.specs.Marks.{shown_by}
 
 abbrev pub shows : ℕ → List ℕ → List ℕ → List ℕ → Showing
@@ -16,5 +17,5 @@ pub record Sized (m : ℕ) (codes strips squares : List ℕ) : Type 0 where
   pub marks : length squares ≡ length strips * m
   pub narrow : length strips * m ≤ 256
 
-abbrev pub Ranked : (ℕ → ℕ) → ℕ → Showing → ℕ → List ℕ → Type 0
-Ranked f m w k xs = (p : ℕ) → p < k → doubt m w p ≡ true → slice_index xs (count p (doubt m w)) ≡ f p
+abbrev pub doubtful_list : ℕ → ℕ → Showing → List ℕ
+doubtful_list m n w = filter (doubt m w) (range_with_len 0 (n * m))

@@ -4,6 +4,8 @@
 mod attempt;
 mod reading;
 mod search;
+mod start;
 
-pub use reading::{list_doubtful, mark_gone, read_out};
+pub use attempt::Fit;
+pub use reading::read_out;
 pub use search::find;

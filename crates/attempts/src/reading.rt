@@ -1,90 +1,58 @@
-// What is read off codes and marks: the strips that are gone, the clear codes, the doubtful squares.
-ghost use Rattle.std.specs.Prelude.{◌≡◌, ℕ, ◌*◌, ◌/◌, ◌<◌, ◌≤◌, not, ◌&&◌, ◌||◌, List, length, nat_eq, nat_lt, slice_index};
+// What every attempt needs of what is shown: the strips that are gone, the clear codes, the doubtful squares.
+ghost use Rattle.std.specs.Prelude.{◌≡◌, ◌*◌, ◌<◌, length};
 ghost use Rattle.refusal.specs.Codes.{Below};
 ghost use Rattle.algebra.specs.Showings.{doubtful_squares};
 ghost use Rattle.correction.specs.Tries.{Readout, Masked};
-ghost use Rattle.attempts.specs.Shown.{shows, Sized, Ranked};
+ghost use Rattle.fitting.specs.Reading.{showing_of};
+ghost use Rattle.attempts.specs.Shown.{shows, Sized, doubtful_list};
 
-// Whether a square is one that counts, and shows its code clearly.
-pub fn is_clear(order: usize, strip_mark: u8, square_mark: u8, code: u8) -> bool
-    ensures value { result ≡ (not (not (nat_eq strip_mark 0)) && not (not (nat_eq square_mark 0) || not (nat_lt code order))) }
-{
-    strip_mark == 0 && square_mark == 0 && (code as usize) < order
-}
-
-// Whether a square is one that counts, and is doubtful.
-fn is_doubtful(order: usize, strip_mark: u8, square_mark: u8, code: u8) -> bool
-    ensures value { result ≡ (not (not (nat_eq strip_mark 0)) && (not (nat_eq square_mark 0) || not (nat_lt code order))) }
-{
-    strip_mark == 0 && (square_mark != 0 || code as usize >= order)
-}
+use fitting::{Reading, Shown};
 
 // Marks the strips that are gone.
-pub fn mark_gone(
-    order: usize,
-    codes: &[u8],
-    strip_marks: &[u8],
-    square_marks: &[u8],
-    gone: &mut [bool],
-)
-    requires size { length gone.old ≡ length strip_marks.now }
-    ensures value { Masked (length strip_marks.now) (shows order codes.now strip_marks.now square_marks.now) gone.new }
+pub fn mark_gone(reading: &Reading, gone: &mut [bool])
+    requires { length gone.old ≡ reading.now.geometry.strips }
+    ensures { Masked reading.now.geometry.strips (showing_of reading.now) gone.new }
 {
-    for j in 0..strip_marks.len() {
-        gone[j] = strip_marks[j] != 0;
+    for (strip, mark) in gone.iter_mut().enumerate() {
+        *mark = reading.is_gone(strip);
     }
 }
 
-// The clear codes, and 0 elsewhere.
-pub fn read_out(
-    order: usize,
-    m: usize,
-    codes: &[u8],
-    strip_marks: &[u8],
-    square_marks: &[u8],
-    base: &mut [u8],
-)
-    requires sized { Sized m codes.now strip_marks.now square_marks.now }
-    requires size { length base.old ≡ length codes.now }
+/// The clear codes, and 0 elsewhere, of strips of `m` squares.
+/// A helper shared between crates: it asks for codes and marks of whole strips, all fit to be places in a byte, and for an order
+/// that is not 0.
+pub fn read_out(order: usize, m: usize, shown: Shown, base: &mut [u8])
+    requires sized { Sized m shown.codes.now shown.strip_marks.now shown.square_marks.now }
+    requires size { length base.old ≡ length shown.codes.now }
     requires some { 0 < order }
-    ensures value { Readout m (length strip_marks.now) (shows order codes.now strip_marks.now square_marks.now) base.new }
+    ensures value { Readout m (length shown.entry.strip_marks.now) (shows order shown.entry.codes.now shown.entry.strip_marks.now shown.entry.square_marks.now) base.new }
     ensures below { Below order base.new }
 {
-    for p in 0..codes.len() {
-        base[p] = if is_clear(order, strip_marks[p / m], square_marks[p], codes[p]) {
-            codes[p]
+    let Shown {
+        codes,
+        strip_marks,
+        square_marks,
+    } = shown;
+    for (square, symbol) in base.iter_mut().enumerate() {
+        let code = codes[square];
+        let here = strip_marks[square / m] == 0 && square_marks[square] == 0;
+        *symbol = if here && usize::from(code) < order {
+            code
         } else {
             0
         };
     }
 }
 
-// Lists the doubtful squares and their locators, and tells how many there are.
-pub fn list_doubtful(
-    order: usize,
-    m: usize,
-    codes: &[u8],
-    strip_marks: &[u8],
-    square_marks: &[u8],
-    locators: &[u8],
-    squares: &mut [u8],
-    points: &mut [u8],
-) -> usize
-    requires sized { Sized m codes.now strip_marks.now square_marks.now }
-    requires locators { length locators.now ≡ length codes.now }
-    requires squares { doubtful_squares m (length strip_marks.now) (shows order codes.now strip_marks.now square_marks.now) ≤ length squares.old }
-    requires points { length points.old ≡ length squares.old }
-    ensures counts { result ≡ doubtful_squares m (length strip_marks.now) (shows order codes.now strip_marks.now square_marks.now) }
-    ensures value { Ranked (λ p. p) m (shows order codes.now strip_marks.now square_marks.now) (length strip_marks.now * m) squares.new }
-    ensures sums { Ranked (λ p. slice_index locators.now p) m (shows order codes.now strip_marks.now square_marks.now) (length strip_marks.now * m) points.new }
+// Stays: `candidate` takes a slice; a vector of fixed room would be filled by the same loop, and then read as one.
+// Lists the doubtful squares, where there is room for just as many.
+pub fn list_doubtful(reading: &Reading, squares: &mut [u8])
+    requires { length squares.old ≡ doubtful_squares reading.now.geometry.squares reading.now.geometry.strips (showing_of reading.now) }
+    ensures { squares.new ≡ doubtful_list reading.now.geometry.squares reading.now.geometry.strips (showing_of reading.now) }
 {
-    let mut d = 0;
-    for p in 0..codes.len() {
-        if is_doubtful(order, strip_marks[p / m], square_marks[p], codes[p]) {
-            squares[d] = p as u8;
-            points[d] = locators[p];
-            d += 1;
-        }
+    let size = reading.geometry().frame_size();
+    let doubtful = (0..size).filter(|square| reading.is_doubtful(*square));
+    for (rank, square) in doubtful.enumerate() {
+        squares[rank] = square as u8;
     }
-    d
 }

@@ -2,6 +2,8 @@
 #![tactic(auto)]
 
 mod erasures;
+mod site;
 mod strips;
 
+pub use site::Site;
 pub use strips::candidate;

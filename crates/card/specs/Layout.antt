@@ -5,17 +5,20 @@
 --   strip_gone    none of the m characters from a place on is in the alphabet
 --   strip_blank   each of them is a space
 --   frame_blank   each character of frame f is a space
+--   fresh_byte    the byte of a fresh card at place i: a newline at the end of each strip, a space elsewhere
+--   card_plan     how a strip stands in the memory
 --   card_reads    what the bytes say. A memory of the wrong length is no card's: it reads as closed, with every strip gone
 --   card_shows    the meaning of a card over a memory
 -- Assumes nothing.
-use Rattle.std.specs.Prelude.{ℕ, ◌+◌, Bool, true, false, cond, not, List, length, Some, None, Option, ◌==◌, nat_eq, slice_index}
-use Rattle.medium.specs.Counts.{frame_count, strip_count, square_count}
+use Rattle.std.specs.Prelude.{ℕ, ◌+◌, ◌%◌, Bool, cond, not, List, Some, None, Option, ◌==◌, nat_eq, slice_index}
 use Rattle.medium.specs.declared.counts.Counts.{Counts}
 use Rattle.medium.specs.Meaning.{Meaning, Square, doubtful, clear}
-use Rattle.medium.specs.Places.{size_of, strip_at}
-use Rattle.medium.specs.Within.{Reading, within}
+use Rattle.medium.specs.Places.{strip_at}
+use Rattle.medium.specs.Within.{Reading}
+use Rattle.memory.specs.Every.{every}
+use Rattle.memory.specs.Plan.{Plan}
+use Rattle.memory.specs.Shows.{reads, shows}
 use Rattle.card.specs.Alphabet.{value_of, is_letter}
-use Rattle.card.specs.Every.{every}
 
 abbrev pub width : ℕ → ℕ
 width m = m + 1
@@ -36,12 +39,21 @@ strip_blank xs at m = every m (λ k. nat_eq (slice_index xs (at + k)) 32)
 abbrev pub frame_blank : ℕ → ℕ → List ℕ → ℕ → Bool
 frame_blank n m xs f = every n (λ s. strip_blank xs (strip_at n (width m) f s) m)
 
-abbrev pub card_reads : ℕ → ℕ → ℕ → List ℕ → Reading
-card_reads fs n m xs = record {
-  unlocked = λ f. cond (length xs == size_of fs n (width m)) (frame_blank n m xs f) false;
-  gone = λ f s. cond (length xs == size_of fs n (width m)) (strip_gone xs (strip_at n (width m) f s) m) true;
-  square = λ f s k. square_of (value_of (slice_index xs (char_at n m f s k)));
+abbrev pub fresh_byte : ℕ → ℕ → ℕ
+fresh_byte m i = cond (i % width m == m) 10 32
+
+abbrev pub card_plan : Plan
+card_plan = record {
+  levels = 37;
+  width = width;
+  gone = strip_gone;
+  square = λ xs at m k. square_of (value_of (slice_index xs (at + k)));
+  writable = strip_blank;
+  fresh_byte = fresh_byte;
 }
 
+abbrev pub card_reads : ℕ → ℕ → ℕ → List ℕ → Reading
+card_reads fs n m xs = reads card_plan (record { frames = fs; strips = n; squares = m }) xs
+
 abbrev pub card_shows : Counts → List ℕ → Meaning
-card_shows c xs = within (frame_count c) (strip_count c) (square_count c) 37 (card_reads (frame_count c) (strip_count c) (square_count c) xs)
+card_shows c xs = shows card_plan c xs

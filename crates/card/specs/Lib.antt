@@ -1,5 +1,7 @@
 pub mod Alphabet
-pub mod Every
+pub mod Laws
 pub mod Layout
+pub mod Letters
+pub mod Made
 pub mod Make
 pub mod Stored

@@ -1,9 +1,8 @@
 -- How a card is made.
 --   Laid        a meaning is what the layout says of the characters, one by one
---   fresh_byte  the byte of a fresh card at place i: a newline at the end of each strip, a space elsewhere
 --   AllOpen     every frame is open
 -- Assumes nothing.
-use Rattle.std.specs.Prelude.{◌≡◌, ℕ, ◌%◌, ◌<◌, true, false, cond, List, ◌==◌, slice_index}
+use Rattle.std.specs.Prelude.{◌≡◌, ℕ, ◌<◌, true, false, List, slice_index}
 use Rattle.medium.specs.Counts.{frame_count, strip_count, square_count}
 use Rattle.medium.specs.declared.counts.Counts.{Counts}
 use Rattle.medium.specs.Meaning.{Meaning}
@@ -19,9 +18,6 @@ pub record Laid (c : Counts) (xs : List ℕ) (w : Meaning) : Type 0 where
   pub unlocked : (f : ℕ) → f < frame_count c → w.unlocked f ≡ frame_blank (strip_count c) (square_count c) xs f
   pub gone : (f s : ℕ) → f < frame_count c → s < strip_count c → w.gone f s ≡ strip_gone xs (strip_at (strip_count c) (width (square_count c)) f s) (square_count c)
   pub square : (f s k : ℕ) → f < frame_count c → s < strip_count c → k < square_count c → w.gone f s ≡ false → w.square f s k ≡ square_of (value_of (slice_index xs (char_at (strip_count c) (square_count c) f s k)))
-
-abbrev pub fresh_byte : ℕ → ℕ → ℕ
-fresh_byte m i = cond (i % width m == m) 10 32
 
 abbrev pub AllOpen : Meaning → Type 0
 AllOpen w = (f : ℕ) → f < w.frames → w.unlocked f ≡ true

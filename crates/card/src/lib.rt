@@ -2,10 +2,7 @@
 #![tactic(auto)]
 
 mod alphabet;
-mod card;
-mod make;
-mod read;
-mod store;
+mod layout;
 
 pub use alphabet::{alphabet_stands, character_of, value_of};
-pub use card::Card;
+pub use layout::{Card, CardLayout};

@@ -1,6 +1,3 @@
 pub mod Digits
-pub mod Encoding
 pub mod Enough
-pub mod Keeping
-pub mod Sizes
 pub mod Strips

@@ -6,6 +6,6 @@ mod number;
 mod record;
 mod text;
 
-pub use line::{keep, kept_is_enough};
+pub use line::{LineBuffer, kept_is_enough};
 pub use number::parse_number;
 pub use record::{LINE, frame_line};

@@ -1,33 +1,24 @@
 // The line of a frame: its strips in card characters, a space between each two.
-ghost use Rattle.std.specs.Prelude.{◌≡◌, ℕ, ◌+◌, ◌*◌, ◌<◌, ◌≤◌, true, false, length};
+ghost use Rattle.std.specs.Prelude.{◌≡◌, ◌+◌, ◌*◌, ◌<◌, ◌≤◌, length, OnOk, IfErr};
+ghost use Rattle.refusal.specs.declared.Refusal.TheVariants.{BadSymbol};
 ghost use Rattle.refusal.specs.Codes.{Below};
 ghost use Rattle.medium.specs.Memory.{Beside};
-ghost use Rattle.card.specs.Alphabet.{letter as letter_of};
-ghost use Rattle.cardtext.specs.Text.{StandsFor, Stranger, Group, Text, width, ending as ending_of};
+ghost use Rattle.cardtext.specs.Text.{StandsFor, Stranger, Group, Text, line_size, ending as ending_of};
 
 use card::{character_of, value_of};
+use geometry::Geometry;
+use refusal::Refusal;
 
-// The symbols that the characters of a line stand for, if all of them are in the alphabet. Asks for room for just these.
-pub fn read_symbols(line: &[u8], symbols: &mut [u8]) -> bool
+// The symbols that the characters of a line stand for, refused if one is not in the alphabet. Asks for room for just these.
+pub fn read_symbols(line: &[u8], symbols: &mut [u8]) -> Result<(), Refusal>
     requires { length symbols.old ≡ length line.now }
-    ensures value { result ≡ true → StandsFor line.now symbols.new }
-    ensures refused { result ≡ false → Stranger line.now }
+    ensures value { OnOk result (StandsFor line.now symbols.new) }
+    ensures refused { IfErr result (λ e. (e ≡ BadSymbol) × Stranger line.now) }
 {
-    for i in 0..line.len() {
-        match value_of(line[i]) {
-            Some(code) => symbols[i] = code,
-            None => return false,
-        }
+    for (i, &byte) in line.iter().enumerate() {
+        symbols[i] = value_of(byte).ok_or(Refusal::BadSymbol)?;
     }
-    true
-}
-
-// The character of a code. Asks for a code below 37.
-fn letter(code: u8) -> u8
-    requires { code < 37 }
-    ensures value { result ≡ letter_of code }
-{
-    character_of(code).unwrap()
+    Ok(())
 }
 
 // What ends strip j of n.
@@ -38,25 +29,32 @@ fn ending(n: usize, j: usize) -> u8
     if j + 1 < n { b' ' } else { b'\n' }
 }
 
-// Writes the characters of m squares, from the place `from` on, and what ends them. Asks for a strip inside the buffer.
-fn write_strip(out: &mut [u8], at: usize, m: usize, squares: &[u8], from: usize, end: u8)
-    requires { (at + width m ≤ length out.old) × ((from + m ≤ length squares.now) × (Below 37 squares.now)) }
-    ensures value { Group out.new at m squares.now from end }
-    ensures same { Beside out.old out.new at (at + width m) }
+// Writes the characters of a strip's squares and what ends them. Asks for one place more than there are squares.
+fn write_strip(squares: &[u8], end: u8, out: &mut [u8])
+    requires room { length out.old ≡ length squares.now + 1 }
+    requires codes { Below 37 squares.now }
+    ensures value { Group out.new 0 (length squares.now) squares.now 0 end }
 {
-    for k in 0..m {
-        out[at + k] = letter(squares[from + k]);
+    for (k, &code) in squares.iter().enumerate() {
+        out[k] = character_of(code).unwrap();
     }
-    out[at + m] = end;
+    out[squares.len()] = end;
 }
 
-// Writes the n strips of an array. Asks for room, and for squares that have characters.
-pub fn write_text(out: &mut [u8], m: usize, n: usize, squares: &[u8])
-    requires { (n * width m ≤ length out.old) × ((length squares.now ≡ n * m) × (Below 37 squares.now)) }
-    ensures value { Text m n squares.now out.new n }
-    ensures same { Beside out.old out.new 0 (n * width m) }
+// Writes the strips of an array. Asks for room, and for squares that have characters.
+pub fn write_text(geometry: &Geometry, squares: &[u8], out: &mut [u8])
+    requires room { line_size geometry.now.squares geometry.now.strips ≤ length out.old }
+    requires size { length squares.now ≡ geometry.now.strips * geometry.now.squares }
+    requires codes { Below 37 squares.now }
+    ensures value { Text geometry.now.squares geometry.now.strips squares.now out.new geometry.now.strips }
+    ensures same { Beside out.old out.new 0 (line_size geometry.now.squares geometry.now.strips) }
 {
-    for j in 0..n {
-        write_strip(out, j * (m + 1), m, squares, j * m, ending(n, j));
+    let width = geometry.squares() + 1;
+    for (j, strip) in squares.chunks_exact(geometry.squares()).enumerate() {
+        write_strip(
+            strip,
+            ending(geometry.strips(), j),
+            &mut out[j * width..(j + 1) * width],
+        );
     }
 }

@@ -1,44 +1,16 @@
--- Check sums of lists of codes on the field's own type: they are linear, and one symbol taken out changes them by its term. Assumes nothing.
-use Rattle.std.proofs.Common.{◌≡◌, ℕ, zero, suc, ◌*◌, ◌/◌, ◌%◌, ◌<◌, ◌≢◌, List, length, get_or, set, sym, ap, ◌∙◌, subst, inl, inr, mod-lt, div-lt_iff_lt-mul, div-add-mod', arith, length-set, get_or-set_other, get_or-set_same}
+-- Check sums of lists of codes on the field's own type: one symbol taken out changes them by its term. Assumes nothing.
+use Rattle.std.proofs.Common.{◌≡◌, ℕ, ◌*◌, ◌/◌, ◌%◌, ◌<◌, ◌≢◌, List, length, get_or, set, sym, ap, ◌∙◌, subst, inl, inr, mod-lt, div-lt_iff_lt-mul, div-add-mod', arith, length-set, get_or-set_other, get_or-set_same}
 use Prim.Native.Nat.{Fin}
 use Rattle.std.proofs.lemmas.Bool.{cases_eq}
 use Rattle.refusal.specs.Codes.{Below}
 use Rattle.geometry.specs.Rule.{Rule}
-use Rattle.laws.specs.Ops.{Ops, Laws, less, power as power_f, sum as sum_f}
-use Rattle.algebra.specs.Frames.{check_sum, strip_locator, square_locator}
-use Rattle.algebra.proofs.Ring.{Whole, mul_assoc, zero_add, neg_add, neg_neg, sum_cong, sum_add, sum_scale, power, ring}
-use Rattle.algebra.proofs.Codes.{codes, zero_code, gen, at, a, power_val, check_sum_val}
+use Rattle.laws.specs.Ops.{Ops, Laws, less, power as power_f}
+use Rattle.algebra.specs.Frames.{strip_locator, square_locator}
+use Rattle.algebra.proofs.Ring.{Whole, mul_right_comm, power}
+use Rattle.algebra.proofs.Codes.{codes, gen, at, a, power_val, sum_code, check_code}
 use Rattle.algebra.proofs.Squares as Q
 use Rattle.solver.specs.Sums.{Taken}
 use Rattle.correction.specs.Nearing.{Held}
-
-module _ (W : Whole) (n m : ℕ) (α β : ℕ → W.C) where
-  open W use {C, 𝟘, 𝟙, ◌⊕◌, ◌⊙◌, ⊖◌}
-
-  infixl 65 ◌⊕◌
-  infixl 70 ◌⊙◌
-  infix 75 ⊖◌
-  apart_term : (x y a b : C) → (x ⊕ ⊖ y) ⊙ a ⊙ b ≡ x ⊙ a ⊙ b ⊕ ⊖ 𝟙 ⊙ (y ⊙ a ⊙ b)
-  apart_term x y a b = simp ring
-
-  none_left : (x : C) → x ⊕ ⊖ 𝟙 ⊙ 𝟘 ≡ x
-  none_left x = simp ring
-
-  -- what differs from a word by a balanced one has its sums
-  pub check_less : (x y : ℕ → C) (h i : ℕ) → Q.check W n m α β y h i ≡ 𝟘 → Q.check W n m α β x h i ≡ Q.check W n m α β (λ p. x p ⊕ ⊖ y p) h i
-  check_less x y h i z = sym (
-      sum_cong W (n * m) (λ p. (x p ⊕ ⊖ y p) ⊙ power W (α (p / m)) i ⊙ power W (β p) h)
-      (λ p. x p ⊙ power W (α (p / m)) i ⊙ power W (β p) h ⊕ ⊖ 𝟙 ⊙ (y p ⊙ power W (α (p / m)) i ⊙ power W (β p) h))
-      (λ p _. apart_term (x p) (y p) (power W (α (p / m)) i) (power W (β p) h))
-      ∙ sum_add W (n * m) (λ p. x p ⊙ power W (α (p / m)) i ⊙ power W (β p) h) (λ p. ⊖ 𝟙 ⊙ (y p ⊙ power W (α (p / m)) i ⊙ power W (β p) h))
-      ∙ ap (λ t. Q.check W n m α β x h i ⊕ t) (sum_scale W (n * m) (⊖ 𝟙) (λ p. y p ⊙ power W (α (p / m)) i ⊙ power W (β p) h) ∙ ap (λ t. ⊖ 𝟙 ⊙ t) z)
-      ∙ none_left (Q.check W n m α β x h i))
-
-  pub turn : (x a b : C) → x ⊙ b ⊙ a ≡ x ⊙ a ⊙ b
-  turn x a b = simp ring
-
-  pub back : (x y : C) → x ⊕ ⊖ (x ⊕ ⊖ y) ≡ y
-  back x y = ap (λ t. x ⊕ t) (neg_add W x (⊖ y) ∙ ap (λ t. ⊖ x ⊕ t) (neg_neg W y)) ∙ sym (W.add_assoc x (⊖ x) y) ∙ ap (λ t. t ⊕ y) (W.add_neg x) ∙ zero_add W y
 
 module _ (F : Ops) (L : Laws F) (m n c : ℕ) (rule : Rule F.order m n c) where
   abbrev pub K : Whole
@@ -50,27 +22,15 @@ module _ (F : Ops) (L : Laws F) (m n c : ℕ) (rule : Rule F.order m n c) where
   pub loc_val : (s : ℕ) → (loc s).0 ≡ square_locator F s
   loc_val s = power_val F L (gen F L) s
 
-  -- the check sums of a list of codes
-  pub check_code : (xs : List ℕ) (b : Below F.order xs) (h i : ℕ) → (Q.check K n m loc loc (at F L xs b) h i).0 ≡ check_sum F m n xs h i
-  check_code xs b h i =
-      ap (λ z. z.0) (sum_cong K (n * m) (λ p. K.◌⊙◌ (K.◌⊙◌ (at F L xs b p) (power K (loc (p / m)) i)) (power K (loc p) h))
-      (λ p. K.◌⊙◌ (at F L xs b p) (K.◌⊙◌ (power K (loc (p / m)) i) (power K (loc p) h)))
-      (λ p _. mul_assoc K (at F L xs b p) (power K (loc (p / m)) i) (power K (loc p) h)))
-      ∙ check_sum_val F L m n c rule.0 rule.3 xs b h i
-
-  sum_code : (k : ℕ) (f : ℕ → ℕ) → sum_f F k f < F.order
-  sum_code zero f = zero_code F L
-  sum_code (suc k) f = L.add_code (sum_f F k f) (f k)
-
   pub table_below : (xs table : List ℕ) → Held F m n c xs table → Below F.order table
   table_below xs table held p l =
       let d = div-add-mod' p c in
       let row : p / c < m = (div-lt_iff_lt-mul rule.1).1 (omega (arith, held.table_size)) in
-      subst (λ (z : ℕ). z < F.order) (sym (ap (λ z. get_or table z 0) (sym d) ∙ held.sums.sums (p / c) (p % c) row (mod-lt p rule.1))) (sum_code n _)
+      subst (λ (z : ℕ). z < F.order) (sym (ap (λ z. get_or table z 0) (sym d) ∙ held.sums.sums (p / c) (p % c) row (mod-lt p rule.1))) (sum_code F L n _)
 
   weight : (s x : ℕ) (lx : x < F.order) (h i : ℕ)
       → (K.◌⊙◌ (K.◌⊙◌ (x, lx) (power K (loc (s / m)) i)) (power K (loc s) h)).0 ≡ F.mul (F.mul x (power_f F (square_locator F s) h)) (power_f F (strip_locator F (s / m)) i)
-  weight s x lx h i = ap (λ z. z.0) (sym (turn K n m loc loc (x, lx) (power K (loc (s / m)) i) (power K (loc s) h))) ∙ simp (power_val)
+  weight s x lx h i = ap (λ z. z.0) (sym (mul_right_comm K (x, lx) (power K (loc s) h) (power K (loc (s / m)) i))) ∙ simp (power_val)
 
   -- one symbol taken out of the array and of its table
   module _ (xs table table' : List ℕ) (s x : ℕ) (held : Held F m n c xs table) (l : s < n * m) (lx : x < F.order) where
@@ -96,9 +56,9 @@ module _ (F : Ops) (L : Laws F) (m n c : ℕ) (rule : Rule F.order m n c) where
       table_size = size;
       sums = record {
         sums = λ h i lh li. taken.done h i lh li
-            ∙ ap (λ t. less F t (F.mul (F.mul x (power_f F (square_locator F s) h)) (power_f F (strip_locator F (s / m)) i))) (held.sums.sums h i lh li ∙ sym (check_code xs held.below h i))
+            ∙ ap (λ t. less F t (F.mul (F.mul x (power_f F (square_locator F s) h)) (power_f F (strip_locator F (s / m)) i))) (held.sums.sums h i lh li ∙ sym (check_code F L m n c rule.0 rule.3 xs held.below h i))
             ∙ ap (λ t. less F (Q.check K n m loc loc (at F L xs held.below) h i).0 t) (sym (weight s x lx h i))
             ∙ sym (ap (λ z. z.0) (Q.take_out K n m loc loc (at F L xs held.below) (at F L after below') s (x, lx) l (native.Mathlib.Fin.val_path here) (λ p _ ne. native.Mathlib.Fin.val_path (there p ne)) h i))
-            ∙ check_code after below' h i;
+            ∙ check_code F L m n c rule.0 rule.3 after below' h i;
       };
     }

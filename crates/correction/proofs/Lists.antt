@@ -1,19 +1,17 @@
 -- The list of the doubtful squares, made in their order, and that list with one clear square more. Assumes nothing.
-use Rattle.std.proofs.Common.{◌≡◌, ℕ, ◌+◌, ◌*◌, ◌/◌, ◌<◌, ◌≤◌, Bool, true, false, not, ◌&&◌, List, length, get_or, take, set, sym, ap, ◌∙◌, subst, inl, inr, arith, length-set, get_or-set_other, get_or-take, get_or-set_same}
+use Rattle.std.proofs.Common.{◌≡◌, ℕ, ◌+◌, ◌*◌, ◌/◌, ◌<◌, ◌≤◌, Bool, true, not, ◌&&◌, List, length, get_or, take, set, sym, ap, ◌∙◌, subst, inl, inr, arith, length-set, get_or-set_other, get_or-take, get_or-set_same}
 use Rattle.std.proofs.lemmas.List.{length-take-le}
-use Rattle.std.proofs.lemmas.Bool.{cases_eq, true≢false}
+use Rattle.std.proofs.lemmas.Bool.{cases_eq, both_ways, not-true, and_parts}
 use Rattle.laws.specs.Ops.{Ops}
 use Rattle.algebra.specs.Frames.{square_locator}
 use Rattle.algebra.specs.Showings.{Showing, count, doubt, doubtful_squares}
-use Rattle.solver.proofs.Ranks.{count_room, select}
+use Rattle.algebra.proofs.Counting.{count_room}
+use Rattle.solver.proofs.Ranks.{select}
 use Rattle.correction.specs.Nearing.{Listed}
 use Rattle.correction.specs.Tries.{clear, Covers, Doubted}
 
 clear_not : (g d : Bool) → (not g && not d) ≡ true → (not g && d) ≡ true → ⊥
-clear_not true true x y = true≢false (sym x)
-clear_not true false x y = true≢false (sym x)
-clear_not false true x y = true≢false (sym x)
-clear_not false false x y = true≢false (sym y)
+clear_not g d x y = both_ways d (not-true d (and_parts (not g) (not d) x).1) (and_parts (not g) d y).1
 
 module _ (m n : ℕ) (w : Showing) where
   -- each doubtful square stands at its rank
@@ -47,15 +45,6 @@ module _ (m n : ℕ) (w : Showing) where
   module _ (F : Ops) (squares points : List ℕ) (d : ℕ) (room : d ≤ length squares) (list : Doubted m n w (take d squares)) where
     d_is : length (take d squares) ≡ d
     d_is = length-take-le d squares room
-
-    pub doubted_listed : d ≤ m → d ≤ length points → ((i : ℕ) → i < d → get_or points i 0 ≡ square_locator F (get_or squares i 0)) → Listed F m n (take d squares) (take d points)
-    doubted_listed few room' at = record {
-      few = omega (arith, d_is);
-      size = length-take-le d points room' ∙ sym d_is;
-      places = list.places;
-      located = λ i l. get_or-take d points i 0 (omega (arith, d_is)) ∙ at i (omega (arith, d_is)) ∙ ap (square_locator F) (sym (get_or-take d squares i 0 (omega (arith, d_is))));
-      apart = list.apart;
-    }
 
     module _ (p0 x0 : ℕ) (wide : d < length squares) (lp : p0 < n * m) (is_clear : clear m w p0 ≡ true) where
       abbrev more : List ℕ

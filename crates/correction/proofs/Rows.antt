@@ -1,13 +1,11 @@
 -- What the row decoder and the peeled sums say on codes, said on the field's own type. Assumes nothing.
-use Rattle.std.proofs.Common.{◌≡◌, ℕ, zero, suc, ◌<◌, Bool, List, [], ◌∷◌, map, length, get_or, sym, refl, ap, ◌∙◌, subst, inl, inr, arith}
+use Rattle.std.proofs.Common.{◌≡◌, ℕ, zero, suc, ◌<◌, Bool, true, List, map, length, get_or, sym, refl, ap, ◌∙◌, subst, arith}
 use Prim.Native.Nat.{Fin}
-use native.Mathlib.Decide.{ℕ_discrete}
 use Rattle.std.specs.List.{range_with_len}
 use Rattle.std.proofs.lemmas.List.FromFn.{length-map-range_with_len, get_or-map-range_with_len}
 use Rattle.geometry.specs.Rule.{Rule}
-use Rattle.laws.specs.Ops.{Ops, Laws, power as power_f, sum as sum_f}
-use Rattle.algebra.proofs.Ring.{In, diffs}
-use Rattle.algebra.proofs.Moments.{peels}
+use Rattle.laws.specs.Ops.{Ops, Laws, less, power as power_f, sum as sum_f}
+use Rattle.algebra.proofs.Rows.{struck, factor}
 use Rattle.algebra.proofs.Codes.{codes}
 use Rattle.algebra.proofs.Squares as Q
 use Rattle.solver.specs.Sums.{Word, marked, fold_of}
@@ -17,45 +15,23 @@ use Rattle.frame.specs.Tables.{Powers}
 use Rattle.correction.specs.Nearing.{gaps}
 use Rattle.correction.proofs.Checks.{K, loc, loc_val}
 
--- the values of f below k, the last first
-unfoldable pub run : (ℕ → ℕ) → ℕ → List ℕ
-run f zero = []
-run f (suc k) = f k ∷ run f k
-
-pub length_run : (f : ℕ → ℕ) (k : ℕ) → length (run f k) ≡ k
-unfolding run
-length_run f zero = refl
-length_run f (suc k) = ap suc (length_run f k)
-
-pub in_run : (f : ℕ → ℕ) (k i : ℕ) → i < k → In (f i) (run f k)
-unfolding run
-in_run f zero i l = absurd (omega arith)
-in_run f (suc k) i l = elim (ℕ_discrete i k) [ yes e ↦ inl (ap f e) | no d ↦ inr (in_run f k i (omega arith)) ]
-
-pub from_run : (f : ℕ → ℕ) (k p : ℕ) → In p (run f k) → (i : ℕ) × (i < k) × (f i ≡ p)
-unfolding run
-from_run f zero p h = absurd h
-from_run f (suc k) p (inl e) = (k, omega arith, sym e)
-from_run f (suc k) p (inr h) = let r = from_run f k p h in (r.0, omega (arith, r.1), r.2)
-
 module _ (F : Ops) (L : Laws F) where
-  pub peels_val : (b : ℕ → Fin F.order) (f : ℕ → ℕ) (points : List ℕ) (v : ℕ → Fin F.order) (k : ℕ) → ((i : ℕ) → i < k → get_or points i 0 ≡ (b (f i)).0)
-      → (h : ℕ) → (peels (codes F L) (map b (run f k)) v h).0 ≡ fold_of F points (λ h. (v h).0) k h
-  unfolding run
-  peels_val b f points v zero e h = refl
-  peels_val b f points v (suc k) e h =
-      let ih = peels_val b f points v k (λ i l. e i (omega arith)) in
+  pub struck_val : (b : ℕ → Fin F.order) (points : List ℕ) (v : ℕ → Fin F.order) (k : ℕ) → ((i : ℕ) → i < k → get_or points i 0 ≡ (b i).0)
+      → (h : ℕ) → (struck (codes F L) b (λ _. true) v k h).0 ≡ fold_of F points (λ h. (v h).0) k h
+  struck_val b points v zero e h = refl
+  struck_val b points v (suc k) e h =
+      let ih = struck_val b points v k (λ i l. e i (omega arith)) in
       let up = ih (suc h) in
       let low = ih h in
       let p = e k (omega arith) in cc
 
-  pub diffs_val : (b : ℕ → Fin F.order) (f : ℕ → ℕ) (points : List ℕ) (x : Fin F.order) (k : ℕ) → ((i : ℕ) → i < k → get_or points i 0 ≡ (b (f i)).0)
-      → (diffs (codes F L) (map b (run f k)) x).0 ≡ gaps F points x.0 k
-  unfolding run diffs
-  diffs_val b f points x zero e = refl
-  diffs_val b f points x (suc k) e =
-      let ih = diffs_val b f points x k (λ i l. e i (omega arith)) in
-      let p = e k (omega arith) in cc
+  pub factor_val : (b : ℕ → Fin F.order) (points : List ℕ) (x : Fin F.order) (k : ℕ) → ((i : ℕ) → i < k → get_or points i 0 ≡ (b i).0)
+      → (factor (codes F L) b (λ _. true) k x).0 ≡ gaps F points x.0 k
+  factor_val b points x zero e = refl
+  factor_val b points x (suc k) e =
+      let ih = factor_val b points x k (λ i l. e i (omega arith)) in
+      let p = e k (omega arith) in
+      let turned = L.mul_comm (factor (codes F L) b (λ _. true) k x).0 (less F x.0 (b k).0) (factor (codes F L) b (λ _. true) k x).1 (L.add_code x.0 (F.neg (b k).0)) in cc
 
   module _ (m n c : ℕ) (rule : Rule F.order m n c) where
     -- a word as a list

@@ -1,19 +1,15 @@
 -- A frame that fits with no silent square is close, and one with a silent square is close with that square more. Assumes nothing.
-use Rattle.std.proofs.Common.{◌≡◌, ℕ, zero, suc, ◌+◌, ◌*◌, ◌/◌, ◌<◌, ◌≤◌, Bool, true, false, cond, not, ◌&&◌, eqb, ◌⊎◌, List, get_or, sym, refl, ap, ◌∙◌, inl, inr, div-lt_iff_lt-mul, arith}
-use Rattle.std.proofs.lemmas.Bool.{cases_eq, cases_order, cases_Bool, eqb-true}
+use Rattle.std.proofs.Common.{◌≡◌, ℕ, ◌+◌, ◌*◌, ◌/◌, ◌<◌, ◌≤◌, Bool, true, false, cond, not, ◌&&◌, eqb, ◌⊎◌, List, get_or, sym, ap, ◌∙◌, inl, inr, div-lt_iff_lt-mul, arith}
+use Rattle.std.proofs.lemmas.Bool.{cases_eq, cases_order, cases_Bool, eqb-true, and_parts, and_from}
 use Rattle.laws.specs.Ops.{Ops}
 use Rattle.algebra.specs.Frames.{IsFrame}
-use Rattle.algebra.specs.Showings.{Showing, count, doubt, silent, doubtful_squares, Fits}
+use Rattle.algebra.specs.Showings.{Showing, count, doubt, differs, silent, doubtful_squares, Fits}
+use Rattle.algebra.proofs.Counting.{count_cong, count_room}
+use Rattle.algebra.proofs.Fitting.{as_shown}
 use Rattle.solver.specs.Sums.{marked}
-use Rattle.solver.proofs.Ranks.{count_room, select}
+use Rattle.solver.proofs.Ranks.{select}
 use Rattle.correction.specs.Nearing.{Near}
 use Rattle.correction.specs.Tries.{clear, Readout, Masked, Covers, Close, Missed}
-
-pub count_cong : (k : ℕ) (p q : ℕ → Bool) → ((i : ℕ) → i < k → p i ≡ q i) → count k p ≡ count k q
-count_cong zero p q h = refl
-count_cong (suc k) p q h =
-    let e : ◌≡◌ {A = ℕ} (cond (p k) 1 0) (cond (q k) 1 0) = ap (λ b. cond b 1 0) (h k (omega arith)) in
-    let ih = count_cong k p q (λ i l. h i (omega arith)) in omega arith
 
 -- a list that covers takes what is close near
 pub close_near : (F : Ops) (m n c : ℕ) (w : Showing) (gone : List Bool) (squares : List ℕ) (extra : ℕ) → 0 < m → Masked n w gone → Covers m n w extra squares
@@ -29,26 +25,8 @@ close_near F m n c w gone squares extra pos mask covers wrong xs ys close = reco
   ];
 }
 
-four : (g h d e : Bool) → g ≡ false → h ≡ false → d ≡ false → e ≡ false → (not h && (not g && (not d && not e))) ≡ true
-four g h d e p q r s = cc
-
-two : (g d : Bool) → g ≡ false → d ≡ true → (not g && d) ≡ true
-two g d p q = cc
-
-neither : (g d : Bool) → g ≡ false → d ≡ false → (not g && not d) ≡ true
-neither g d p q = cc
-
-clear_of : (g h d e : Bool) → (not h && (not g && (not d && not e))) ≡ true → (not g && not d) ≡ true
-clear_of true true true true x = x
-clear_of true true true false x = x
-clear_of true true false true x = x
-clear_of true true false false x = x
-clear_of true false true true x = x
-clear_of true false true false x = x
-clear_of true false false true x = x
-clear_of true false false false x = x
-clear_of false h true e x = elim h as (λ h. (not h && false) ≡ true → false ≡ true) [ true ↦ (λ x. x) | false ↦ (λ x. x) ] x
-clear_of false h false e x = refl
+certain : (g d : Bool) → g ≡ false → (not g && d) ≡ false → (not g && not d) ≡ true
+certain g d p q = let n : d ≡ false = cc in cc
 
 module _ (F : Ops) (m n c : ℕ) (w : Showing) (xs ys : List ℕ) (read : Readout m n w xs) (frame : IsFrame F m n c ys) where
   -- where the frame differs from what was read, and nothing else explains it, a square is silent
@@ -58,51 +36,48 @@ module _ (F : Ops) (m n c : ℕ) (w : Showing) (xs ys : List ℕ) (read : Readou
     | inl g ↦ inr (inl g)
     | inr g ↦ elim (cases_Bool (wrong (p / m))) [
       | inl h ↦ inr (inr (inl h))
-      | inr h ↦ elim (cases_Bool (w.doubtful p)) [
-        | inl d ↦ inr (inr (inr (inl (two _ _ g d))))
-        | inr d ↦ elim (cases_Bool (eqb (get_or ys p 0) (w.shown p))) [
-          | inl e ↦ inl (read.is p l ∙ ap (λ b. cond b (w.shown p) 0) (neither _ _ g d) ∙ sym (eqb-true (get_or ys p 0) (w.shown p) e))
-          | inr e ↦ inr (inr (inr (inr (four _ _ _ _ g h d e))))
+      | inr h ↦ elim (cases_Bool (doubt m w p)) [
+        | inl d ↦ inr (inr (inr (inl d)))
+        | inr d ↦ elim (cases_Bool (silent m w wrong ys p)) [
+          | inl z ↦ inr (inr (inr (inr z)))
+          | inr z ↦ inl (read.is p l ∙ ap (λ b. cond b (w.shown p) 0) (certain (w.gone (p / m)) (w.doubtful p) g d)
+              ∙ sym (eqb-true (get_or ys p 0) (w.shown p) (as_shown (w.gone (p / m)) (wrong (p / m)) (w.doubtful p) (eqb (get_or ys p 0) (w.shown p)) g h d z)))
         ]
       ]
     ]
   ]
 
   silent_clear : (wrong : ℕ → Bool) (p : ℕ) → silent m w wrong ys p ≡ true → clear m w p ≡ true
-  silent_clear wrong p h = clear_of (w.gone (p / m)) (wrong (p / m)) (w.doubtful p) (eqb (get_or ys p 0) (w.shown p)) h
+  silent_clear wrong p h =
+      let q = and_parts (not (wrong (p / m))) (differs m w ys p) h in
+      let r = and_parts (not (w.gone (p / m))) (not (w.doubtful p) && not (eqb (get_or ys p 0) (w.shown p))) q.1 in
+      and_from (not (w.gone (p / m))) (not (w.doubtful p)) r.0 (and_parts (not (w.doubtful p)) (not (eqb (get_or ys p 0) (w.shown p))) r.1).0
 
   -- what fits has been tried
   pub fit_tried : (limit : ℕ) → limit ≤ 1 → Fits limit m n c w ys → Missed F limit m n c w xs (n * m)
       → (2 + doubtful_squares m n w ≤ m → (p : ℕ) → p < n * m → clear m w p ≡ true → Missed F limit m n c w xs p) → ⊥
   fit_tried limit one fits none each = elim (cases_eq (count (n * m) s) 0) [
-    | inl z ↦ none fits.wrong ys (record {
-      frame = frame;
-      room = fits.strips;
-      agrees = λ p l. elim (differing fits.wrong p l) [
-        | inl e ↦ inl e
-        | inr (inl h) ↦ inr (inl h)
-        | inr (inr (inl h)) ↦ inr (inr (inl h))
-        | inr (inr (inr (inl h))) ↦ inr (inr (inr (inl h)))
-        | inr (inr (inr (inr h))) ↦ absurd (omega (arith, count_room s p (n * m) l h))
-      ];
-    }) fits
+    | inl z ↦ none fits.wrong ys (close (n * m) (λ p l h. absurd (omega (arith, count_room s p (n * m) l h)))) fits
     | inr some ↦ (let r = select s (n * m) 0 (omega arith) in
-        each (omega (arith, fits.squares)) r.0 r.1 (silent_clear fits.wrong r.0 r.2) fits.wrong ys (record {
-          frame = frame;
-          room = fits.strips;
-          agrees = λ p l. elim (differing fits.wrong p l) [
-            | inl e ↦ inl e
-            | inr (inl h) ↦ inr (inl h)
-            | inr (inr (inl h)) ↦ inr (inr (inl h))
-            | inr (inr (inr (inl h))) ↦ inr (inr (inr (inl h)))
-            | inr (inr (inr (inr h))) ↦ inr (inr (inr (inr (elim (cases_order p r.0) [
-              | inl e ↦ e
-              | inr (inl k) ↦ absurd (omega (arith, count_room s p r.0 k h, r.3))
-              | inr (inr k) ↦ absurd (omega (arith, count_room s r.0 p k r.2, count_room s p (n * m) l h, fits.few))
-            ]))))
-          ];
-        }) fits)
+        each (omega (arith, fits.squares)) r.0 r.1 (silent_clear fits.wrong r.0 r.2) fits.wrong ys (close r.0 (λ p l h. elim (cases_order p r.0) [
+          | inl e ↦ e
+          | inr (inl k) ↦ absurd (omega (arith, count_room s p r.0 k h, r.3))
+          | inr (inr k) ↦ absurd (omega (arith, count_room s r.0 p k r.2, count_room s p (n * m) l h, fits.few))
+        ])) fits)
   ]
     where
       s : ℕ → Bool
       s = silent m w fits.wrong ys
+
+      close : (extra : ℕ) → ((p : ℕ) → p < n * m → s p ≡ true → p ≡ extra) → Close F m n c w fits.wrong extra xs ys
+      close extra only = record {
+        frame = frame;
+        room = fits.strips;
+        agrees = λ p l. elim (differing fits.wrong p l) [
+          | inl e ↦ inl e
+          | inr (inl h) ↦ inr (inl h)
+          | inr (inr (inl h)) ↦ inr (inr (inl h))
+          | inr (inr (inr (inl h))) ↦ inr (inr (inr (inl h)))
+          | inr (inr (inr (inr h))) ↦ inr (inr (inr (inr (only p l h))))
+        ];
+      }

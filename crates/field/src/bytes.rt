@@ -1,5 +1,5 @@
 // The field of 256 codes: polynomials over two elements, modulo 0x11D, multiplied by their logarithms.
-ghost use Rattle.std.specs.Prelude.{◌≡◌};
+ghost use Rattle.std.specs.Prelude.{◌≡◌, refl};
 ghost use Rattle.laws.specs.Ops.{Ops, Laws, less};
 ghost use Rattle.laws.specs.Instances.{bytes};
 ghost use Rattle.laws.proofs.Fields.{byte_laws};
@@ -15,17 +15,17 @@ impl Field for Bytes {
 
     const GENERATOR: u8 = 2;
 
+    ghost ORDER = { 256 };
+
+    ghost GENERATOR = { 2 };
+
     ghost ops = { bytes };
 
     ghost lawful = { byte_laws };
 
-    fn size() -> u16 {
-        Self::ORDER
-    }
+    ghost order_is = { refl };
 
-    fn root() -> u8 {
-        Self::GENERATOR
-    }
+    ghost generator_is = { refl };
 
     fn add(a: u8, b: u8) -> u8 {
         a ^ b

@@ -1,5 +1,5 @@
 // What a field is: its order, its generator and four operations on codes.
-ghost use Rattle.std.specs.Prelude.{◌≡◌};
+ghost use Rattle.std.specs.Prelude.{◌≡◌, ℕ};
 ghost use Rattle.laws.specs.Ops.{Ops, Laws, less};
 
 /// A finite field whose elements are the codes below `ORDER`. An operation on what is no code answers 0.
@@ -7,18 +7,14 @@ pub trait Field {
     /// How many codes there are.
     const ORDER: u16;
 
+    ghost ORDER: { ℕ };
+
     /// A code whose powers are all the codes but 0.
     const GENERATOR: u8;
 
+    ghost GENERATOR: { ℕ };
+
     ghost ops: { Ops };
-
-    /// `ORDER`, tied to the meaning.
-    fn size() -> u16
-        ensures { result ≡ ops.order };
-
-    /// `GENERATOR`, tied to the meaning.
-    fn root() -> u8
-        ensures { result ≡ ops.generator };
 
     fn add(a: u8, b: u8) -> u8
         ensures { result ≡ ops.add a b };
@@ -40,4 +36,8 @@ pub trait Field {
     }
 
     ghost lawful: { Laws ops };
+
+    ghost order_is: { ORDER ≡ ops.order };
+
+    ghost generator_is: { GENERATOR ≡ ops.generator };
 }

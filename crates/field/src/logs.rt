@@ -62,7 +62,7 @@ pub fn exp(k: u16) -> u8
     requires { k ≤ 1024 }
     ensures value { result ≡ antilog bytes k }
 {
-    EXP[k as usize]
+    EXP[usize::from(k)]
 }
 
 /// The exponent of `a`.
@@ -70,5 +70,5 @@ pub fn log(a: u8) -> u16
     ensures below { result ≤ 512 }
     ensures value { Log bytes a result }
 {
-    LOG[a as usize]
+    LOG[usize::from(a)]
 }

@@ -1,5 +1,5 @@
 // The field of 37 codes: the numbers modulo 37.
-ghost use Rattle.std.specs.Prelude.{◌≡◌};
+ghost use Rattle.std.specs.Prelude.{◌≡◌, refl};
 ghost use Rattle.laws.specs.Ops.{Ops, Laws, less};
 ghost use Rattle.laws.specs.Instances.{mod37};
 ghost use Rattle.laws.proofs.Fields.{mod37_laws};
@@ -18,17 +18,17 @@ impl Field for Mod37 {
 
     const GENERATOR: u8 = 2;
 
+    ghost ORDER = { 37 };
+
+    ghost GENERATOR = { 2 };
+
     ghost ops = { mod37 };
 
     ghost lawful = { mod37_laws };
 
-    fn size() -> u16 {
-        Self::ORDER
-    }
+    ghost order_is = { refl };
 
-    fn root() -> u8 {
-        Self::GENERATOR
-    }
+    ghost generator_is = { refl };
 
     fn add(a: u8, b: u8) -> u8 {
         if a < 37 && b < 37 { (a + b) % 37 } else { 0 }
@@ -40,13 +40,13 @@ impl Field for Mod37 {
 
     fn mul(a: u8, b: u8) -> u8 {
         if a < 37 && b < 37 {
-            ((a as u16 * b as u16) % 37) as u8
+            (u16::from(a) * u16::from(b) % 37) as u8
         } else {
             0
         }
     }
 
     fn inv(a: u8) -> u8 {
-        if a < 37 { INVERSES[a as usize] } else { 0 }
+        if a < 37 { INVERSES[usize::from(a)] } else { 0 }
     }
 }

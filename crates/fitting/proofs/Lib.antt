@@ -1,4 +1,4 @@
 pub mod Counting
-pub mod Strips
+pub mod Chains
 pub mod Naming
 pub mod Deciding

@@ -1,13 +1,12 @@
 -- The fewest wrong strips: the strips with the fewest changes are left out first. None can do with fewer, since up to an edge
 -- all strips are left out, from it on all are named wrong, and what is left of the budget is below the edge. Assumes nothing.
-use Rattle.std.proofs.Common.{◌≡◌, ℕ, zero, suc, ◌+◌, ◌-◌, ◌*◌, ◌<◌, ◌≤◌, Bool, true, false, cond, not, ◌&&◌, eqb, sym, refl, ap, ◌∙◌, inl, inr, mul-le-mul_right, suc-mul, mul-le-mul_left, one-mul, mul-zero, zero-mul, mul-one, mul-suc, mul-add, add-one, arith}
-use Rattle.std.proofs.lemmas.Bool.{cases_Bool, cases_lt, cases_eq, eqb-true, eqb-false, eq-eqb, lt-ltb, le-ltb}
+use Rattle.std.proofs.Common.{◌≡◌, ℕ, zero, suc, ◌+◌, ◌-◌, ◌*◌, ◌/◌, ◌<◌, ◌≤◌, min, Bool, true, false, cond, not, ◌&&◌, eqb, sym, refl, ap, subst, ◌∙◌, inl, inr, mul-le-mul_right, suc-mul, mul-le-mul_left, one-mul, mul-zero, zero-mul, mul-one, mul-suc, mul-add, add-one, div-mul-le_self, arith}
+use Rattle.std.proofs.Math.Nat.{lt-div-mul-add}
+use Rattle.std.proofs.lemmas.Bool.{cases_Bool, cases_lt, cases_eq, eqb-true, eqb-false, eq-eqb, lt-ltb, le-ltb, true≢false}
 use Rattle.algebra.specs.Showings.{count}
 use Rattle.fitting.specs.Wrong.{total, left_out, Fewest, Spared, Stage}
-use Rattle.fitting.proofs.Counting.{count_true, count_false, count_room, first}
-
-never : {X : Type 0} → true ≡ false → X
-never e = let z : ◌≡◌ {A = ℕ} 0 1 = cc in absurd (omega arith)
+use Rattle.algebra.proofs.Counting.{count_true, count_false, count_room}
+use Rattle.fitting.proofs.Counting.{first}
 
 module _ (d : ℕ → ℕ) where
   -- one strip: named wrong from the edge on, against any other naming
@@ -32,14 +31,14 @@ module _ (d : ℕ → ℕ) where
     | inr g ↦ g
   ]
 
-  pub fewest : (n budget t rest : ℕ) → Stage n budget d (budget + 1) t rest → Fewest n budget d t
-  fewest n budget t rest s = record {
-    naming = record { wrong = s.wrong; changed = λ j l e. omega (arith, s.over j l e, s.least); number = s.number; within = omega (arith, s.spent) };
+  pub fewest : (n budget s t rest : ℕ) → Stage n budget d s t rest → budget < s → Fewest n budget d t
+  fewest n budget s t rest g past = record {
+    naming = record { wrong = g.wrong; changed = λ j l e. omega (arith, g.over j l e, g.least); number = g.number; within = omega (arith, g.spent) };
     least = λ b h. (
-        let below : rest < s.edge = elim s.near [ inl x ↦ omega (arith, x.0, s.spent) | inr x ↦ x.1 ] in
-        let w = weigh s.edge n s.wrong b s.over s.under in
-        let nb : s.edge * t ≤ s.edge * count n b + rest = omega (arith, ap (λ z. s.edge * z) s.number, s.spent) in
-        smaller s.edge t (count n b) rest nb below);
+        let below : rest < g.edge = elim g.near [ inl x ↦ omega (arith, x.0, g.spent) | inr x ↦ x.1 ] in
+        let w = weigh g.edge n g.wrong b g.over g.under in
+        let nb : g.edge * t ≤ g.edge * count n b + rest = omega (arith, ap (λ z. g.edge * z) g.number, g.spent) in
+        smaller g.edge t (count n b) rest nb below);
   }
 
   -- where the changed strips are all named wrong
@@ -61,13 +60,13 @@ module _ (d : ℕ → ℕ) where
     spent = omega (arith, nothing n);
     edge = 1;
     least = omega arith;
-    over = λ j l h. elim (cases_Bool (eqb (d j) 0)) [ inl z ↦ never (sym h ∙ ap not z) | inr z ↦ elim (cases_eq (d j) 0) [ inl q ↦ absurd (eqb-false (d j) 0 z q) | inr q ↦ omega arith ] ];
+    over = λ j l h. elim (cases_Bool (eqb (d j) 0)) [ inl z ↦ absurd (true≢false (sym h ∙ ap not z)) | inr z ↦ elim (cases_eq (d j) 0) [ inl q ↦ absurd (eqb-false (d j) 0 z q) | inr q ↦ omega arith ] ];
     under = λ j l h. omega (arith, zeros j h);
     near = inl (refl, λ j l h. omega (arith, zeros j h));
   }
     where
       zeros : (j : ℕ) → not (eqb (d j) 0) ≡ false → d j ≡ 0
-      zeros j h = elim (cases_Bool (eqb (d j) 0)) [ inl z ↦ eqb-true (d j) 0 z | inr z ↦ never (sym (ap not z) ∙ h) ]
+      zeros j h = elim (cases_Bool (eqb (d j) 0)) [ inl z ↦ eqb-true (d j) 0 z | inr z ↦ absurd (true≢false (sym (ap not z) ∙ h)) ]
 
 first_on : (p : ℕ → Bool) (k j : ℕ) → p j ≡ true → count j p < k → first p k j ≡ true
 unfolding first
@@ -82,7 +81,7 @@ unfolding first
 first_late p k j l = let z = le-ltb (count j p) k l in elim (cases_Bool (p j)) [ inl e ↦ cc | inr e ↦ cc ]
 
 first_passes : (p : ℕ → Bool) (k j : ℕ) → first p k j ≡ true → p j ≡ true
-first_passes p k j e = elim (cases_Bool (p j)) [ inl h ↦ h | inr h ↦ never (sym e ∙ first_off p k j h) ]
+first_passes p k j e = elim (cases_Bool (p j)) [ inl h ↦ h | inr h ↦ absurd (true≢false (sym e ∙ first_off p k j h)) ]
 
 first_few : (p : ℕ → Bool) (k n : ℕ) → count n p ≤ k → count n (first p k) ≡ count n p
 first_few p k zero l = refl
@@ -146,7 +145,7 @@ module _ (d : ℕ → ℕ) (n budget s t rest k : ℕ) where
     | inr e ↦ absurd (let le : 1 * s ≤ k * s = mul-le-mul_right s (let o : 1 ≤ k = omega arith in o) in omega (arith, one-mul s, h.paid))
   ]
 
-  pub spare : Stage n budget d s t rest → Spared (count n (λ j. eqb (d j) s)) rest s k → Stage n budget d (s + 1) (t - k) (rest - k * s)
+  spare : Stage n budget d s t rest → Spared (count n (λ j. eqb (d j) s)) rest s k → Stage n budget d (s + 1) (t - k) (rest - k * s)
   unfolding of_size
   spare g h = elim g.near [
     | inr x ↦ (
@@ -170,7 +169,7 @@ module _ (d : ℕ → ℕ) (n budget s t rest k : ℕ) where
         let number : count n (after d g.wrong s k) ≡ t - k = omega (arith, after_count d g.wrong s k n all, g.number) in
         let spent : total n (left_out d (after d g.wrong s k)) + (rest - k * s) ≡ budget = omega (arith, after_total d g.wrong s k n all, g.spent, h.paid) in
         let over : (j : ℕ) → j < n → after d g.wrong s k j ≡ true → s ≤ d j = λ j l e. elim (cases_Bool (first (of_size d s) k j)) [
-          | inl y ↦ never (sym e ∙ after_out d g.wrong s k j y)
+          | inl y ↦ absurd (true≢false (sym e ∙ after_out d g.wrong s k j y))
           | inr y ↦ omega (arith, x.0, g.over j l (sym (after_same d g.wrong s k j y) ∙ e))
         ] in
         let under : (j : ℕ) → j < n → after d g.wrong s k j ≡ false → d j ≤ s = λ j l e. elim (cases_Bool (first (of_size d s) k j)) [
@@ -186,7 +185,7 @@ module _ (d : ℕ → ℕ) (n budget s t rest k : ℕ) where
             edge = s + 1;
             least = omega arith;
             over = λ j l e. elim (cases_eq (d j) s) [
-              | inl q ↦ (let r = count_room (of_size d s) j n l (eq-eqb (d j) s q) in never (sym e ∙ after_out d g.wrong s k j (first_on (of_size d s) k j (eq-eqb (d j) s q) (omega (arith, y)))))
+              | inl q ↦ (let r = count_room (of_size d s) j n l (eq-eqb (d j) s q) in absurd (true≢false (sym e ∙ after_out d g.wrong s k j (first_on (of_size d s) k j (eq-eqb (d j) s q) (omega (arith, y))))))
               | inr q ↦ omega (arith, over j l e)
             ];
             under = λ j l e. omega (arith, under j l e);
@@ -196,7 +195,7 @@ module _ (d : ℕ → ℕ) (n budget s t rest k : ℕ) where
   ]
 
   -- no more are left out than are named wrong
-  pub spare_room : Stage n budget d s t rest → Spared (count n (λ j. eqb (d j) s)) rest s k → k ≤ t
+  spare_room : Stage n budget d s t rest → Spared (count n (λ j. eqb (d j) s)) rest s k → k ≤ t
   unfolding of_size
   spare_room g h = elim g.near [
     | inr x ↦ omega (arith, too_dear h (omega (arith, x.0, x.1)))
@@ -205,3 +204,20 @@ module _ (d : ℕ → ℕ) (n budget s t rest k : ℕ) where
         let few : count n (first (of_size d s) k) ≡ k = first_all (of_size d s) k n h.enough in
         omega (arith, after_count d g.wrong s k n all, g.number))
   ]
+
+-- as many are left out as there are, or as the rest allows
+module _ (d : ℕ → ℕ) (n budget s t rest strips k : ℕ) (some : 0 < s) (found : strips ≡ count n (λ j. eqb (d j) s)) (out : k ≡ min strips (rest / s)) where
+  spared : Spared strips rest s k
+  spared = rw out (elim (cases_lt (rest / s) strips) [
+    | inl h ↦ (let e : min strips (rest / s) ≡ rest / s = omega arith in
+        rw e (record { enough = omega arith; paid = div-mul-le_self rest s; most = inr (lt-div-mul-add some) }))
+    | inr h ↦ (let e : min strips (rest / s) ≡ strips = omega arith in
+        let le : strips * s ≤ rest / s * s = mul-le-mul_right s h in
+        rw e (record { enough = omega arith; paid = omega (arith, div-mul-le_self rest s); most = inl refl }))
+  ])
+
+  pub spare_most : Stage n budget d s t rest → Stage n budget d (s + 1) (t - k) (rest - k * s)
+  spare_most g = spare d n budget s t rest k g (subst (λ z. Spared z rest s k) found spared)
+
+  pub spare_most_room : Stage n budget d s t rest → k ≤ t
+  spare_most_room g = spare_room d n budget s t rest k g (subst (λ z. Spared z rest s k) found spared)

@@ -1,9 +1,7 @@
 -- Which strips have to be wrong.
 --   total       the sum of f 0 .. f (k - 1)
---   doubts      how many squares of strip j are doubtful
 --   changes     how many clear squares of strip j differ from what is shown
 --   left_out    the changes of a strip that is not named wrong
---   Sized       codes, marks and a frame of the lengths that n strips of m squares have
 --   Budget      the most squares that may be silent, under a limit and beside the doubtful squares
 --   Naming      r strips with changes, named wrong, such that the changes of the others are within a budget
 --   Fewest      there is a naming of r strips, and no way to name strips wrong within the budget has fewer
@@ -11,26 +9,18 @@
 --   Stage       strips named wrong while those with fewer than s changes were left out as far as the budget allowed: up to an edge
 --               all are left out, from it on all are named wrong
 -- Assumes nothing.
-use Rattle.std.specs.Prelude.{◌≡◌, ℕ, zero, suc, ◌+◌, ◌*◌, ◌<◌, ◌≤◌, Bool, true, false, cond, ◌⊎◌, List, length}
-use Rattle.algebra.specs.Showings.{Showing, count, doubt, differs}
+use Rattle.std.specs.Prelude.{◌≡◌, ℕ, zero, suc, ◌+◌, ◌*◌, ◌<◌, ◌≤◌, Bool, true, false, cond, ◌⊎◌, List}
+use Rattle.algebra.specs.Showings.{Showing, count, differs}
 
 abbrev pub total : ℕ → (ℕ → ℕ) → ℕ
 total zero f = 0
 total (suc k) f = total k f + f k
-
-abbrev pub doubts : ℕ → Showing → ℕ → ℕ
-doubts m w j = count m (λ κ. doubt m w (j * m + κ))
 
 abbrev pub changes : ℕ → Showing → List ℕ → ℕ → ℕ
 changes m w xs j = count m (λ κ. differs m w xs (j * m + κ))
 
 abbrev pub left_out : (ℕ → ℕ) → (ℕ → Bool) → ℕ → ℕ
 left_out d wrong j = cond (wrong j) 0 (d j)
-
-pub record Sized (m : ℕ) (codes strips squares : List ℕ) : Type 0 where
-  pub some : 0 < m
-  pub shown : length codes ≡ length strips * m
-  pub marks : length squares ≡ length strips * m
 
 pub record Budget (limit m doubtful r : ℕ) : Type 0 where
   pub few : r ≤ limit

@@ -1,8 +1,10 @@
-// Counts of what is shown.
-ghost use Rattle.std.specs.Prelude.{◌≡◌, ◌<◌, not, ◌&&◌, ◌||◌, length, ◌==◌, nat_lt};
-ghost use Rattle.algebra.specs.Showings.{reading, count, doubtful_squares, changed_squares};
+// Counts of what is wrong.
+ghost use Rattle.std.specs.Prelude.{◌≡◌, length};
+ghost use Rattle.algebra.specs.Showings.{count, reading, doubtful_squares, changed_squares};
+ghost use Rattle.fitting.specs.Lengths.{Sized};
 ghost use Rattle.fitting.specs.Marks.{marked, shown_by};
-ghost use Rattle.fitting.specs.Wrong.{Sized, doubts, changes};
+
+use crate::reading::Shown;
 
 /// What was found wrong with what is shown of a frame.
 #[derive(Clone, Copy, PartialEq, Eq, Debug)]
@@ -19,128 +21,28 @@ pub struct Counts {
 pub fn count_marked(marks: &[u8]) -> usize
     ensures { result ≡ count (length marks.now) (marked marks.now) }
 {
-    let mut all = 0;
-    for i in 0..marks.len() {
-        if marks[i] != 0 {
-            all += 1;
-        }
-    }
-    all
+    marks.iter().filter(|mark| **mark != 0).count()
 }
 
-// Whether a square of a strip that is not gone counts as doubtful.
-fn is_doubtful(order: usize, code: u8, mark: u8) -> bool
-    ensures { result ≡ (not (mark == 0) || not (nat_lt code order)) }
+/// How many squares are doubtful, in strips of so many, for a field of this order.
+/// A helper shared between crates: it asks for the lengths of such strips.
+pub fn count_doubtful(order: usize, squares: usize, shown: Shown) -> usize
+    requires { Sized squares shown.codes.now shown.strip_marks.now shown.square_marks.now }
+    ensures { result ≡ doubtful_squares squares (length shown.entry.strip_marks.now) (reading order (shown_by shown.entry.codes.now shown.entry.strip_marks.now shown.entry.square_marks.now)) }
 {
-    mark != 0 || code as usize >= order
+    (0..shown.codes.len())
+        .filter(|square| shown.is_doubtful(order, squares, *square))
+        .count()
 }
 
-// How many squares of a strip are doubtful, none if it is gone.
-fn doubtful_in(
-    order: usize,
-    squares: usize,
-    codes: &[u8],
-    strip_marks: &[u8],
-    square_marks: &[u8],
-    strip: usize,
-) -> usize
-    requires sized { Sized squares codes.now strip_marks.now square_marks.now }
-    requires there { strip < length strip_marks.now }
-    ensures { result ≡ doubts squares (reading order (shown_by codes.now strip_marks.now square_marks.now)) strip }
+/// How many clear squares a frame has another code at than is shown, in strips of so many squares, for a field of this order.
+/// A helper shared between crates: it asks for the lengths of such strips.
+pub fn count_changed(order: usize, squares: usize, shown: Shown, frame: &[u8]) -> usize
+    requires sized { Sized squares shown.codes.now shown.strip_marks.now shown.square_marks.now }
+    requires whole { length frame.now ≡ length shown.codes.now }
+    ensures { result ≡ changed_squares squares (length shown.entry.strip_marks.now) (reading order (shown_by shown.entry.codes.now shown.entry.strip_marks.now shown.entry.square_marks.now)) frame.now }
 {
-    if strip_marks[strip] != 0 {
-        return 0;
-    }
-    let start = strip * squares;
-    let mut all = 0;
-    for i in 0..squares {
-        let at = start + i;
-        if is_doubtful(order, codes[at], square_marks[at]) {
-            all += 1;
-        }
-    }
-    all
-}
-
-// Whether a square of a strip that is not gone is clear and shows another code than the frame has.
-fn is_changed(order: usize, code: u8, mark: u8, symbol: u8) -> bool
-    ensures { result ≡ (not (not (mark == 0) || not (nat_lt code order)) && not (symbol == code)) }
-{
-    !is_doubtful(order, code, mark) && symbol != code
-}
-
-// How many clear squares of a strip differ from what is shown, none if it is gone.
-pub fn changed_in(
-    order: usize,
-    squares: usize,
-    codes: &[u8],
-    strip_marks: &[u8],
-    square_marks: &[u8],
-    frame: &[u8],
-    strip: usize,
-) -> usize
-    requires sized { Sized squares codes.now strip_marks.now square_marks.now }
-    requires whole { length frame.now ≡ length codes.now }
-    requires there { strip < length strip_marks.now }
-    ensures { result ≡ changes squares (reading order (shown_by codes.now strip_marks.now square_marks.now)) frame.now strip }
-{
-    let mark = strip_marks[strip];
-    if mark != 0 {
-        return 0;
-    }
-    let start = strip * squares;
-    let mut all = 0;
-    for i in 0..squares {
-        let at = start + i;
-        if is_changed(order, codes[at], square_marks[at], frame[at]) {
-            all += 1;
-        }
-    }
-    all
-}
-
-// How many squares are doubtful. Shared with the corrector, which has tested the lengths.
-pub fn count_doubtful(
-    order: usize,
-    squares: usize,
-    codes: &[u8],
-    strip_marks: &[u8],
-    square_marks: &[u8],
-) -> usize
-    requires { Sized squares codes.now strip_marks.now square_marks.now }
-    ensures { result ≡ doubtful_squares squares (length strip_marks.now) (reading order (shown_by codes.now strip_marks.now square_marks.now)) }
-{
-    let mut all = 0;
-    for strip in 0..strip_marks.len() {
-        all += doubtful_in(order, squares, codes, strip_marks, square_marks, strip);
-    }
-    all
-}
-
-// How many clear squares differ from what is shown. Shared with the corrector, which has tested the lengths.
-pub fn count_changed(
-    order: usize,
-    squares: usize,
-    codes: &[u8],
-    strip_marks: &[u8],
-    square_marks: &[u8],
-    frame: &[u8],
-) -> usize
-    requires sized { Sized squares codes.now strip_marks.now square_marks.now }
-    requires whole { length frame.now ≡ length codes.now }
-    ensures { result ≡ changed_squares squares (length strip_marks.now) (reading order (shown_by codes.now strip_marks.now square_marks.now)) frame.now }
-{
-    let mut all = 0;
-    for strip in 0..strip_marks.len() {
-        all += changed_in(
-            order,
-            squares,
-            codes,
-            strip_marks,
-            square_marks,
-            frame,
-            strip,
-        );
-    }
-    all
+    (0..shown.codes.len())
+        .filter(|square| shown.is_changed(order, squares, frame, *square))
+        .count()
 }

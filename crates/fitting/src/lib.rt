@@ -1,9 +1,12 @@
 // Whether a frame fits what is shown of it.
 #![tactic(auto)]
 
+mod comparison;
 mod counts;
 mod decision;
-mod wrong;
+mod reading;
 
+pub use comparison::Comparison;
 pub use counts::{Counts, count_changed, count_doubtful, count_marked};
-pub use decision::{SILENT_LIMIT, fits, weigh_fit};
+pub use decision::{SILENT_LIMIT, fits};
+pub use reading::{Reading, Shown};

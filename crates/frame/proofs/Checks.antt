@@ -10,9 +10,6 @@ use Rattle.solver.proofs.Parts.{sum_cong}
 use Rattle.frame.specs.Tables.{row_sum, Scattered, CheckColumns}
 use Rattle.frame.proofs.Strips.{by_place}
 
-pub check_columns_none : (F : Ops) (m : ℕ) (points table columns : List ℕ) → CheckColumns F m 0 points table columns
-check_columns_none F m points table columns = record { below = λ t h l k. absurd (omega arith); sums = λ h i l k. absurd (omega arith) }
-
 other_place : (m t j h h' : ℕ) → h < m → h' < m → h' ≢ h → t * m + h' ≢ j * m + h
 other_place m t j h h' l l' n e = n (sym (digits_mod t l') ∙ ap (λ p. Prim.Native.Nat.◌%◌ p m) e ∙ digits_mod j l)
 

@@ -1,28 +1,24 @@
 -- The check sums, strip by strip: the power sums of the strips' power sums. Assumes nothing.
-use Rattle.std.proofs.Common.{◌≡◌, ℕ, zero, suc, ◌+◌, ◌*◌, ◌<◌, List, length, get_or, sym, ap, ◌∙◌, subst, arith}
+use Rattle.std.proofs.Common.{◌≡◌, ℕ, ◌+◌, ◌*◌, ◌<◌, List, length, get_or, sym, ap, ◌∙◌, subst, arith}
 use Prim.Native.Nat.{Fin}
 use Rattle.refusal.specs.Codes.{Below}
 use Rattle.laws.specs.Ops.{Ops, Laws, power as power_f, sum as sum_f}
 use Rattle.algebra.specs.Frames.{check_sum, strip_locator, square_locator}
-use Rattle.algebra.proofs.Ring.{Whole, sum, sum_cong, sum_scale, power, mul_comm, ring}
-use Rattle.algebra.proofs.Codes.{codes, gen, at, sum_val, power_val}
-use Rattle.solver.proofs.Parts.{sum_cong as sum_f_cong}
+use Rattle.algebra.proofs.Ring.{Whole, sum, sum_cong, sum_scale, power, mul_comm, mul_left_comm}
+use Rattle.algebra.proofs.Codes.{codes, gen, at, sum_code, sum_val, power_val}
+use Rattle.solver.proofs.Parts.{power_code, sum_cong as sum_f_cong}
 use Rattle.frame.proofs.Strips.{in_strip, by_place}
-use Rattle.frame.proofs.Factors.{power_code}
 use Rattle.frame.specs.Tables.{column, row_sum, Powers, Columns}
 
 module _ (W : Whole) where
   open W use {C, ◌⊙◌}
 
   infixl 70 ◌⊙◌
-  turned : (x a b : C) → a ⊙ (x ⊙ b) ≡ x ⊙ (a ⊙ b)
-  turned x a b = simp ring
-
   -- a factor goes into a sum
   pub factor_in : (m : ℕ) (x b : ℕ → C) (a : C) → sum W m (λ κ. x κ ⊙ b κ) ⊙ a ≡ sum W m (λ κ. x κ ⊙ (a ⊙ b κ))
   factor_in m x b a =
       mul_comm W (sum W m (λ κ. x κ ⊙ b κ)) a ∙ sym (sum_scale W m a (λ κ. x κ ⊙ b κ))
-      ∙ sum_cong W m (λ κ. a ⊙ (x κ ⊙ b κ)) (λ κ. x κ ⊙ (a ⊙ b κ)) (λ κ l. turned (x κ) a (b κ))
+      ∙ sum_cong W m (λ κ. a ⊙ (x κ ⊙ b κ)) (λ κ. x κ ⊙ (a ⊙ b κ)) (λ κ l. mul_left_comm W a (x κ) (b κ))
 
 module _ (F : Ops) (L : Laws F) (m n : ℕ) where
   -- the power k of the locator at s, as an element
@@ -58,13 +54,9 @@ module _ (F : Ops) (L : Laws F) (m n : ℕ) where
       (λ j k. let e : get_or strips j 0 ≡ strip_locator F j = ps j (omega arith) in let d = cols.sums j h k l ∙ column_powers squares xs pq lq j h k in cc)
       ∙ check_strips xs b h i
 
-  pub sum_code : (k : ℕ) (f : ℕ → ℕ) → sum_f F k f < F.order
-  sum_code zero f = omega (arith, L.order_least)
-  sum_code (suc k) f = L.add_code (sum_f F k f) (f k)
-
   pub columns_below : (points xs columns : List ℕ) → Columns F m n points xs columns → length columns ≡ n * m → Below F.order columns
   columns_below points xs columns cols e s l =
-      by_place m n s (omega arith) (λ (z : ℕ). get_or columns z 0 < F.order) (λ j h lj lh. subst (λ (z : ℕ). z < F.order) (sym (cols.sums j h lj lh)) (sum_code m _))
+      by_place m n s (omega arith) (λ (z : ℕ). get_or columns z 0 < F.order) (λ j h lj lh. subst (λ (z : ℕ). z < F.order) (sym (cols.sums j h lj lh)) (sum_code F L m _))
 
   pub powers_below : (x : ℕ) (xs : List ℕ) → Powers F x xs → Below F.order xs
   powers_below x xs ps j l = rw (ps j l) (power_code F L x j)

@@ -5,16 +5,15 @@ use Rattle.refusal.specs.Codes.{Below}
 use Rattle.laws.specs.Ops.{Ops, Laws, power, sum}
 use Rattle.algebra.specs.Frames.{check_sum, strip_locator, square_locator}
 use Rattle.algebra.proofs.Ring.{sum_append, zero_mul}
-use Rattle.algebra.proofs.Codes.{codes, sum_val}
+use Rattle.algebra.proofs.Codes.{codes, sum_code, sum_val}
 use Rattle.solver.specs.Sums.{Apart}
-use Rattle.solver.proofs.Parts.{part, length_part, get_d_part, sum_cong}
+use Rattle.solver.proofs.Parts.{part, length_part, get_d_part, power_code, sum_cong}
 use Rattle.frame.specs.Tables.{Powers, column, Sums, CheckStrips, Completed}
 use Rattle.frame.proofs.Strips.{in_strip}
-use Rattle.frame.proofs.Factors.{power_code}
-use Rattle.frame.proofs.Columns.{check_strips, sum_code}
+use Rattle.frame.proofs.Columns.{check_strips}
 
 -- a part's elements are the list's
-pub tail_below : (q i j : ℕ) (xs : List ℕ) → j ≤ length xs → Below q xs → Below q (part i j xs)
+tail_below : (q i j : ℕ) (xs : List ℕ) → j ≤ length xs → Below q xs → Below q (part i j xs)
 tail_below q i j xs h b k l = let s = length_part i j xs h in rw (get_d_part i j xs k (omega arith)) (b (i + k) (omega arith))
 
 pub tail_apart : (i j : ℕ) (xs : List ℕ) → j ≤ length xs → Apart xs → Apart (part i j xs)
@@ -29,6 +28,10 @@ module _ (F : Ops) (L : Laws F) where
     | inr (inl l) ↦ absurd (L.powers_apart i j l (omega arith) (sym (ps i li) ∙ e ∙ ps j lj))
     | inr (inr l) ↦ absurd (L.powers_apart j i l (omega arith) (sym (ps j lj) ∙ sym e ∙ ps i li))
   ]
+
+  -- from some exponent on
+  pub powers_tail : (k : ℕ) (xs : List ℕ) → Powers F F.generator xs → Below F.order (part k (length xs) xs)
+  powers_tail k xs ps = tail_below F.order k (length xs) xs (omega arith) (λ j l. rw (ps j l) (power_code F L F.generator j))
 
   pub sum_split : (k c : ℕ) (f : ℕ → ℕ) → ((j : ℕ) → f j < F.order) → sum F (k + c) f ≡ F.add (sum F k f) (sum F c (λ t. f (k + t)))
   sum_split k c f b =
@@ -79,7 +82,7 @@ module _ (F : Ops) (L : Laws F) where
           sum_cong F k (weighed xs h i) (weighed start h i) (λ j l. ap (λ z. F.mul z (power F (strip_locator F j) i))
           (sum_cong F m (λ κ. F.mul (get_or xs (j * m + κ) 0) (power F (square_locator F (j * m + κ)) h)) (λ κ. F.mul (get_or start (j * m + κ) 0) (power F (square_locator F (j * m + κ)) h))
           (λ κ q. ap (λ z. F.mul z (power F (square_locator F (j * m + κ)) h)) (front (j * m + κ) (in_strip m k j κ l q)))))
-          ∙ sym (L.add_zero (sum F k (weighed start h i)) (sum_code F L m n k (weighed start h i)))
+          ∙ sym (L.add_zero (sum F k (weighed start h i)) (sum_code F L k (weighed start h i)))
           ∙ ap (F.add (sum F k (weighed start h i))) (sym (sum_zeros c (λ t. weighed start h i (k + t)) nothing))
           ∙ sym (parts start bs h i) ∙ sym (sums.sums h i lh li)
         where
@@ -114,7 +117,7 @@ module _ (F : Ops) (L : Laws F) where
           codes = codes_all;
           checks = λ h i lh li. parts xs codes_all h i
               ∙ ap (λ z. F.add z (sum F c (λ t. weighed xs h i (k + t)))) (before h i lh li) ∙ ap (F.add (get_or table (h * c + i) 0)) (after h i lh li)
-              ∙ L.add_neg (get_or table (h * c + i) 0) (subst (λ (z : ℕ). z < F.order) (sym (sums.sums h i lh li)) (sum_code F L m n n _));
+              ∙ L.add_neg (get_or table (h * c + i) 0) (subst (λ (z : ℕ). z < F.order) (sym (sums.sums h i lh li)) (sum_code F L n _));
         };
         front = front;
       }

@@ -7,4 +7,3 @@ pub mod Columns
 pub mod Checks
 pub mod Completes
 pub mod Sizes
-pub mod Begins

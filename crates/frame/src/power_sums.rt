@@ -6,13 +6,13 @@ ghost use Rattle.frame.specs.Tables.{Powers, Moments};
 
 use field::Field;
 
-/// The powers of a code, from exponent 0 on, as many as there is room for. Asks that x is a code.
+/// The powers of a code, from exponent 0 on, as many as there is room for.
 pub fn powers<F: Field>(x: u8, out: &mut [u8])
     ensures value { Powers F.Field.ops x out.new }
 {
     let mut p = 1;
-    for j in 0..out.len() {
-        out[j] = p;
+    for power in out.iter_mut() {
+        *power = p;
         p = F::mul(x, p);
     }
 }
@@ -24,10 +24,10 @@ fn turn<F: Field>(points: &[u8], weights: &mut [u8]) -> u8
     ensures raised { (t : ℕ) → t < length points.now → slice_index weights.new t ≡ F.Field.ops.mul (slice_index weights.old t) (slice_index points.now t) }
 {
     let mut total = 0;
-    for t in 0..points.len() {
-        let x = weights[t];
+    for (t, weight) in weights.iter_mut().enumerate() {
+        let x = *weight;
         total = F::add(total, x);
-        weights[t] = F::mul(x, points[t]);
+        *weight = F::mul(x, points[t]);
     }
     total
 }
@@ -40,7 +40,7 @@ pub fn moments<F: Field>(points: &[u8], weights: &mut [u8], out: &mut [u8])
     requires weights { Below F.Field.ops.order weights.old }
     ensures value { Moments F.Field.ops points.now weights.old out.new }
 {
-    for h in 0..out.len() {
-        out[h] = turn::<F>(points, weights);
+    for sum in out.iter_mut() {
+        *sum = turn::<F>(points, weights);
     }
 }

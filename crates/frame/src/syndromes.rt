@@ -9,6 +9,7 @@ use crate::table::{column_sums, gather_row};
 use field::Field;
 
 // From each strip's power sums to the check sums.
+// Stays: the sizes and the room of `check_sums`, whose second step it is.
 fn sum_rows<F: Field>(
     m: usize,
     c: usize,
@@ -24,6 +25,7 @@ fn sum_rows<F: Field>(
     requires columns_below { Below F.Field.ops.order columns.now }
     ensures value { RowSums F.Field.ops m c m locators.now columns.now table.new }
 {
+    // Stays: c may be 0, and after a loop over chunks_exact_mut a proof knows the table's length alone.
     for h in 0..m {
         gather_row(m, h, columns, row);
         moments::<F>(locators, row, &mut table[h * c..h * c + c]);
@@ -32,6 +34,7 @@ fn sum_rows<F: Field>(
 
 /// The check sums of an array: m rows of c.
 /// A helper shared between crates: it asks for the powers of the generator as locators, codes, and the sizes of a geometry.
+// Stays: it asks for no geometry, whose rule would be more than it asks; Locators::check_sums is it for a geometry.
 pub fn check_sums<F: Field>(
     m: usize,
     c: usize,

@@ -11,6 +11,7 @@ use solver::solve;
 
 /// Each strip's power sums at its squares' locators, strip by strip.
 /// A helper shared between crates: it asks for codes, and for n strips of m squares in each list.
+// Stays: it asks for sizes and for no geometry, whose rule would be more than it asks.
 pub fn column_sums<F: Field>(
     m: usize,
     n: usize,
@@ -27,6 +28,7 @@ pub fn column_sums<F: Field>(
     requires array_below { Below F.Field.ops.order array.now }
     ensures value { Columns F.Field.ops m n locators.now array.now columns.new }
 {
+    // Stays: m may be 0, which chunks_exact does not take.
     for j in 0..n {
         let at = j * m;
         work.copy_from_slice(&array[at..at + m]);
@@ -41,8 +43,8 @@ pub fn gather_row(m: usize, h: usize, columns: &[u8], row: &mut [u8])
     requires size { length row.old * m ≤ length columns.now }
     ensures value { Row m h columns.now row.new }
 {
-    for j in 0..row.len() {
-        row[j] = columns[j * m + h];
+    for (j, sum) in row.iter_mut().enumerate() {
+        *sum = columns[j * m + h];
     }
 }
 
@@ -53,8 +55,8 @@ pub fn scatter_row(m: usize, h: usize, row: &[u8], columns: &mut [u8])
     requires size { length row.now * m ≤ length columns.old }
     ensures value { Scattered m h (length row.now) row.now columns.old columns.new }
 {
-    for j in 0..row.len() {
-        columns[j * m + h] = row[j];
+    for (j, sum) in row.iter().enumerate() {
+        columns[j * m + h] = *sum;
     }
 }
 
@@ -68,6 +70,7 @@ pub fn solve_strips<F: Field>(m: usize, n: usize, locators: &[u8], columns: &mut
     requires apart { Apart locators.now }
     ensures value { FilledIn F.Field.ops m n locators.now columns.old columns.new }
 {
+    // Stays: m may be 0, and after a loop over chunks_exact_mut a proof knows the columns' length alone.
     for j in 0..n {
         let at = j * m;
         solve::<F>(&locators[at..at + m], &mut columns[at..at + m]);

@@ -8,7 +8,7 @@ ghost use Rattle.geometry.specs.Rule.{Rule};
 use refusal::Refusal;
 
 /// The layout of a frame: strips of squares, the last strips of which are checks.
-#[derive(Clone, Copy)]
+#[derive(Clone, Copy, PartialEq, Eq, Debug)]
 pub struct Geometry {
     /// The order of the field.
     order: usize,

@@ -2,7 +2,7 @@
 -- Assumes nothing.
 use Rattle.std.proofs.Common.{◌≡◌, ℕ, ◌*◌, ◌/◌, ◌<◌, ◌≤◌, Bool, true, false, not, ◌&&◌, ◌||◌, eqb, ltb, List, get_or, sym, refl, ap, ◌∙◌, div-lt_iff_lt-mul, arith}
 use Rattle.algebra.specs.Showings.{Showing, reading, count, doubt, differs, silent, gone_strips, doubtful_squares, changed_squares, Fits}
-use Rattle.fitting.proofs.Counting.{count_same}
+use Rattle.algebra.proofs.Counting.{count_cong}
 use Rattle.kept.specs.Shows.{Agree}
 
 -- a test of a place that does not look at the squares of a gone strip, nor at the code of a doubtful square
@@ -23,10 +23,10 @@ module _ (q m n : ℕ) (some : 1 ≤ m) (v w : Showing) (a : Agree m n v w) wher
       blind_same test b (v.gone (p / m)) (w.gone (p / m)) (v.doubtful p) (w.doubtful p) (v.shown p) (w.shown p) (a.gone (p / m) ((div-lt_iff_lt-mul some).1 h)) (a.doubtful p h) (a.shown p h)
 
   pub agree_gone : gone_strips n (reading q v) ≡ gone_strips n (reading q w)
-  agree_gone = count_same n v.gone w.gone a.gone
+  agree_gone = count_cong n v.gone w.gone a.gone
 
   pub agree_doubtful : doubtful_squares m n (reading q v) ≡ doubtful_squares m n (reading q w)
-  agree_doubtful = count_same (n * m) (doubt m (reading q v)) (doubt m (reading q w))
+  agree_doubtful = count_cong (n * m) (doubt m (reading q v)) (doubt m (reading q w))
       (at (λ g d x. not g && (d || not (ltb x q))) (record { gone = λ d d' x x'. refl; doubtful = λ x x'. refl }))
 
   agree_differs : (xs : List ℕ) (p : ℕ) → p < n * m → differs m (reading q v) xs p ≡ differs m (reading q w) xs p
@@ -34,12 +34,12 @@ module _ (q m n : ℕ) (some : 1 ≤ m) (v w : Showing) (a : Agree m n v w) wher
       at (λ g d x. not g && (not (d || not (ltb x q)) && not (eqb (get_or xs p 0) x))) (record { gone = λ d d' x x'. refl; doubtful = λ x x'. refl }) p h
 
   pub agree_changed : (xs : List ℕ) → changed_squares m n (reading q v) xs ≡ changed_squares m n (reading q w) xs
-  agree_changed xs = count_same (n * m) (differs m (reading q v) xs) (differs m (reading q w) xs) (agree_differs xs)
+  agree_changed xs = count_cong (n * m) (differs m (reading q v) xs) (differs m (reading q w) xs) (agree_differs xs)
 
   pub agree_fits : (limit c : ℕ) (xs : List ℕ) → Fits limit m n c (reading q v) xs → Fits limit m n c (reading q w) xs
   agree_fits limit c xs f =
       let silents : count (n * m) (silent m (reading q v) f.wrong xs) ≡ count (n * m) (silent m (reading q w) f.wrong xs) =
-      count_same (n * m) (silent m (reading q v) f.wrong xs) (silent m (reading q w) f.wrong xs) (λ p h. ap (λ b. not (f.wrong (p / m)) && b) (agree_differs xs p h)) in
+      count_cong (n * m) (silent m (reading q v) f.wrong xs) (silent m (reading q w) f.wrong xs) (λ p h. ap (λ b. not (f.wrong (p / m)) && b) (agree_differs xs p h)) in
       record {
         wrong = f.wrong;
         not_gone = λ j h e. sym (a.gone j h) ∙ f.not_gone j h e;

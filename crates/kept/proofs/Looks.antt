@@ -1,45 +1,37 @@
 -- Looking over a frame, square by square: what the looks together say of the frame. Assumes nothing.
-use Rattle.std.proofs.Common.{◌≡◌, ℕ, ◌+◌, ◌*◌, ◌/◌, ◌%◌, ◌<◌, ◌≤◌, Bool, true, false, cond, ltb, List, get_or, Ok, Err, Result, sym, refl, ap, ◌∙◌, subst, mul-le-mul_right, mod-lt, mod-eq_of_lt, suc-mul, div-lt_iff_lt-mul, div-add-mod', arith}
-use native.Mathlib.Nat.{mul-add-mod_self_right}
-use Rattle.std.proofs.lemmas.Bool.{lt-ltb, both_ways}
+use Rattle.std.proofs.Common.{◌≡◌, ℕ, zero, suc, ◌+◌, ◌*◌, ◌/◌, ◌%◌, ◌<◌, ◌≤◌, Bool, true, false, cond, List, get_or, Ok, Result, sym, refl, ap, ◌∙◌, subst, mul_comm, mod-lt, div-lt_iff_lt-mul, arith, rules}
+use Rattle.std.proofs.lemmas.Bool.{both_ways}
+use Rattle.std.proofs.lemmas.Nat.{mul-add-lt, div-mul-add, mod-mul-add}
 use Rattle.refusal.specs.declared.Refusal.{Refusal}
-use Rattle.refusal.specs.declared.Refusal.TheVariants.{NoSuchPlace}
 use Rattle.algebra.specs.Showings.{Showing}
 use Rattle.medium.specs.declared.medium.Look.{Look}
 use Rattle.medium.specs.declared.medium.Look.TheVariants.{Gone, Clear}
 use Rattle.medium.specs.Meaning.{Meaning, Square, doubtful, clear, look_on, look_at, look_of}
-use Rattle.fitting.proofs.Counting.{strip_of}
 use Rattle.kept.specs.Shows.{unclear, code_on, shown_of, Shows, Agree, Noted}
-use Rattle.kept.specs.Code.{Code, size}
-use Rattle.kept.specs.Calls.{Suits}
 
 look_ok : (w : Meaning) (f s k : ℕ) → f < w.frames → s < w.strips → k < w.squares → look_of w f s k ≡ Ok (look_at w f s k)
-look_ok w f s k hf hs hk =
-    let no : Result Look Refusal = Err NoSuchPlace in
-    let yes = Ok (look_at w f s k) in
-    ap (λ b. cond b (cond (ltb s w.strips) (cond (ltb k w.squares) yes no) no) no) (lt-ltb f w.frames hf)
-    ∙ ap (λ b. cond b (cond (ltb k w.squares) yes no) no) (lt-ltb s w.strips hs)
-    ∙ ap (λ b. cond b yes no) (lt-ltb k w.squares hk)
+look_ok w f s k hf hs hk = search rules
+
+some_squares : (n m p : ℕ) → p < n * m → 1 ≤ m
+some_squares n zero p h = omega arith
+some_squares n (suc m) p h = omega arith
 
 -- a look at place p of a frame is granted
-pub looked : (K : Code) (v w : Meaning) (f p m : ℕ) (r : Result Look Refusal) → Suits K w → 1 ≤ K.m → m ≡ K.m → f < w.frames → p < size K → v ≡ w → r ≡ look_of v f (p / m) (p % m)
+pub looked : (v w : Meaning) (f p m : ℕ) (r : Result Look Refusal) → f < w.frames → m ≡ w.squares → p < w.strips * m → v ≡ w → r ≡ look_of v f (p / m) (p % m)
     → r ≡ Ok (look_at w f (p / m) (p % m))
-looked K v w f p m r s some e hf hp same is =
-    let pos : 1 ≤ m = omega arith in
-    let row : p / m < w.strips = subst (λ n. p / m < n) (sym s.strips) ((div-lt_iff_lt-mul pos).1 (subst (λ t. p < K.n * t) (sym e) hp)) in
-    let col : p % m < w.squares = subst (λ n. p % m < n) (e ∙ sym s.squares) (mod-lt p pos) in
-    is ∙ ap (λ u. look_of u f (p / m) (p % m)) same ∙ look_ok w f (p / m) (p % m) hf row col
+looked v w f p m r there e h same is =
+    let some : 1 ≤ m = some_squares w.strips m p h in
+    let col : p % m < w.squares = subst (λ n. p % m < n) e (mod-lt p some) in
+    is ∙ ap (λ u. look_of u f (p / m) (p % m)) same ∙ look_ok w f (p / m) (p % m) there ((div-lt_iff_lt-mul some).1 h) col
 
 -- square k of strip s stands at place s * m + k
 place : (m n s k : ℕ) → s < n → k < m → s * m + k < n * m
-place m n s k hs hk = let row : s * m + m ≤ n * m = rw suc-mul at (mul-le-mul_right m hs) in omega arith
+place m n s k hs hk = subst (λ t. s * m + k < t) (mul_comm m n) (mul-add-lt s m k n hs hk)
 
-square_of : (m s k : ℕ) → k < m → (s * m + k) % m ≡ k
-square_of m s k l = mul-add-mod_self_right s m k ∙ mod-eq_of_lt l
-
-look_clear : (g : Bool) (q : Square) (c : ℕ) → cond g Gone (look_on q) ≡ Clear c → (g ≡ false) × (q ≡ clear c)
-look_clear true q c e = absurd (let z : ◌≡◌ {A = ℕ} 0 1 = cc in omega arith)
-look_clear false doubtful c e = absurd (let z : ◌≡◌ {A = ℕ} 0 1 = cc in omega arith)
+-- only a clear square of a strip that is there looks clear
+pub look_clear : (g : Bool) (q : Square) (c : ℕ) → cond g Gone (look_on q) ≡ Clear c → (g ≡ false) × (q ≡ clear c)
+look_clear true q c e = (cc, cc)
+look_clear false doubtful c e = (cc, cc)
 look_clear false (clear d) c e = (refl, let same : d ≡ c = cc in ap clear same)
 
 module _ (w : Meaning) (f m n : ℕ) (some : 1 ≤ m) (strips : w.strips ≡ n) (squares : w.squares ≡ m) where
@@ -53,16 +45,7 @@ module _ (w : Meaning) (f m n : ℕ) (some : 1 ≤ m) (strips : w.strips ≡ n) 
       at : (s k : ℕ) → s < n → k < m → (w.gone f s ≡ false) × (w.square f s k ≡ clear (get_or xs (s * m + k) 0))
       at s k h l =
           look_clear (w.gone f s) (w.square f s k) (get_or xs (s * m + k) 0)
-          (sym (λ i. look_at w f (strip_of m s k l i) (square_of m s k l i)) ∙ each (s * m + k) (place m n s k h l))
-
-  -- and the other way round
-  pub shows_at : (xs : List ℕ) → Shows w f xs → (p : ℕ) → p < n * m → look_at w f (p / m) (p % m) ≡ Clear (get_or xs p 0)
-  shows_at xs s p h =
-      let row : p / m < w.strips = subst (λ t. p / m < t) (sym strips) ((div-lt_iff_lt-mul some).1 h) in
-      ap (λ b. cond b Gone (look_on (w.square f (p / m) (p % m)))) (s.present (p / m) row)
-      ∙ ap look_on (s.coded (p / m) (p % m) row (subst (λ t. p % m < t) (sym squares) (mod-lt p some)))
-      ∙ ap (λ t. Clear (get_or xs (p / m * t + p % m) 0)) squares
-      ∙ ap (λ t. Clear (get_or xs t 0)) (div-add-mod' p m)
+          (sym (λ i. look_at w f (div-mul-add s m k l i) (mod-mul-add s m k l i)) ∙ each (s * m + k) (place m n s k h l))
 
 noted_gone : (g : Bool) (q : Square) (a b : Bool) (x : ℕ) → Noted (cond g Gone (look_on q)) a b x → a ≡ g
 noted_gone true q a b x h = h
@@ -84,7 +67,7 @@ pub agree_noted : (w : Meaning) (f m n : ℕ) (v : Showing) → 1 ≤ m → w.sq
     → ((p : ℕ) → p < n * m → Noted (look_at w f (p / m) (p % m)) (v.gone (p / m)) (v.doubtful p) (v.shown p)) → Agree m n v (shown_of w f)
 unfolding shown_of
 agree_noted w f m n v some squares each = record {
-  gone = λ j h. (let e = strip_of m j 0 some in sym (ap v.gone e) ∙ noted_gone _ (sq (j * m + 0)) _ _ _ (each (j * m + 0) (place m n j 0 h some)) ∙ ap (w.gone f) e);
+  gone = λ j h. (let e = div-mul-add j m 0 some in sym (ap v.gone e) ∙ noted_gone _ (sq (j * m + 0)) _ _ _ (each (j * m + 0) (place m n j 0 h some)) ∙ ap (w.gone f) e);
   doubtful = λ p h g. noted_doubtful (w.gone f (p / m)) (sq p) _ _ _ (each p h) g ∙ ap unclear (same p);
   shown = λ p h g d. noted_shown (w.gone f (p / m)) (sq p) _ _ _ (each p h) g d ∙ ap code_on (same p);
 }

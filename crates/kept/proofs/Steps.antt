@@ -1,17 +1,16 @@
 -- From what the parts of a call promise to what the call does: outcomes handed on, cause by cause. Assumes nothing.
-use Rattle.std.proofs.Common.{◌≡◌, ℕ, ◌*◌, ◌<◌, ◌≤◌, true, List, [], ◌∷◌, length, take, Ok, Err, Result, sym, refl, ap, ◌∙◌, subst, inl, inr, not-le_of_lt, arith}
+use Rattle.std.proofs.Common.{◌≡◌, ℕ, ◌<◌, ◌≤◌, true, List, [], ◌∷◌, Ok, Err, Result, sym, ap, ◌∙◌, subst, inl, inr, not-le_of_lt}
 use Rattle.std.proofs.lemmas.Bool.{both_ways}
 use Rattle.refusal.specs.declared.Refusal.{Refusal}
 use Rattle.refusal.specs.declared.Refusal.TheVariants.{NotShown}
-use Rattle.refusal.specs.Codes.{Below}
-use Rattle.refusal.proofs.Causes.{ok_not_err, same_ok, carried, granted}
+use Rattle.refusal.proofs.Causes.{ok_not_err, same_ok, carried}
 use Rattle.algebra.specs.Showings.{Showing}
 use Rattle.medium.specs.Meaning.{Meaning}
-use Rattle.medium.specs.Write.{Written, Writes, no_write}
+use Rattle.medium.specs.Write.{Written}
 use Rattle.fitting.specs.declared.counts.Counts.{Counts}
 use Rattle.kept.specs.Shows.{shown_of, Shows, Agree}
-use Rattle.kept.specs.Code.{Code, Lawful, size, room, counts, Fitting}
-use Rattle.kept.specs.Calls.{Suits, Finds, TooWorn, Put, Stores, Reads, Moves, Mends, Copies}
+use Rattle.kept.specs.Code.{Code, Lawful, counts, Fitting}
+use Rattle.kept.specs.Calls.{Finds, TooWorn, Put, Moves, Copies}
 use Rattle.kept.proofs.Agree.{agree_sym}
 
 -- the answer of a writing, handed on
@@ -21,39 +20,10 @@ handed v u w f xs a s r e p err ok =
     (subst (λ t. Written t f xs w) e p.0, carried _ _ _ _ s r ((NotShown, (Shows w f xs → ⊥)) ∷ []) (λ k q _. (err k q, tt)) ok p.1)
 
 module _ (K : Code) where
-  -- a writing that nothing stands against
-  pub wrote : (v w : Meaning) (f : ℕ) (xs : List ℕ) (r : Result (Unit {0}) Refusal) → Suits K v → f < v.frames → length xs ≡ size K → Below K.order xs → v.unlocked f ≡ true
-      → Writes v f xs r w → (r ≡ Ok tt) × Written v f xs w
-  wrote v w f xs r s there long below unlocked o =
-      granted _ _ r (no_write v f xs)
-      ((λ k. not-le_of_lt there k), ((λ ne. ne (long ∙ sym (λ i. s.strips i * s.squares i))), ((λ ne. ne (λ i h. let b = below i h in let l = s.levels in omega arith)), ((λ e. both_ways (v.unlocked f) e unlocked), tt)))) o
-
-  pub mends_done : (v w : Meaning) (f : ℕ) (r : Result Counts Refusal) → f < v.frames → v.unlocked f ≡ true
-      → Moves K v f f r w → Mends K v f r w
-  mends_done v w f r there unlocked o =
-      inr ((λ k. not-le_of_lt there k), inr ((λ e. both_ways (v.unlocked f) e unlocked), o))
-
   pub copies_done : (v w : Meaning) (from to : ℕ) (r : Result Counts Refusal) → from < v.frames → to < v.frames → v.unlocked to ≡ true
       → Moves K v from to r w → Copies K v from to r w
   copies_done v w from to r here there unlocked o =
       inr ((λ k. not-le_of_lt here k), inr ((λ k. not-le_of_lt there k), inr ((λ e. both_ways (v.unlocked to) e unlocked), o)))
-
-  pub stores_done : (v u w : Meaning) (f : ℕ) (rec xs : List ℕ) (r : Result (Unit {0}) Refusal) → f < v.frames → length rec ≡ room K → Below K.order rec → v.unlocked f ≡ true
-      → u ≡ v → K.frame_of rec xs → Put u f xs tt r w → Stores K v f rec r w
-  stores_done v u w f rec xs r there long below unlocked e fr p =
-      inr (
-        (λ k. not-le_of_lt there k),
-        inr (
-          (λ n. n long),
-          inr (
-            (λ n. n below),
-            inr (
-              (λ q. both_ways (v.unlocked f) q unlocked),
-              (xs, fr, handed v u w f xs tt r r e p (λ k q. q) (λ q. q)),
-            ),
-          ),
-        ),
-      )
 
   -- the fitting frame was written
   pub moves_done : (v u w : Meaning) (from to : ℕ) (xs : List ℕ) (s : Result Counts Refusal) (t : Result (Unit {0}) Refusal) (r : Result Counts Refusal) (a : Counts)
@@ -69,34 +39,7 @@ module _ (K : Code) where
   moves_worn v w from to xs s r same finds was err =
       carried _ _ _ _ s r (TooWorn K (shown_of v from)) (λ k q _. (err k q, same)) (λ p. absurd (ok_not_err s p.2 was)) finds
 
-  pub reads_worn : (v w : Meaning) (f : ℕ) (out xs : List ℕ) (s r : Result Counts Refusal) {k : Refusal} → f < v.frames → length out ≡ room K → w ≡ v
-      → Finds K (shown_of v f) s xs → s ≡ Err k → ((j : Refusal) → s ≡ Err j → r ≡ Err j) → Reads K v f out r out w
-  reads_worn v w f out xs s r there long same finds was err = (
-    same,
-    inr (
-      (λ k. not-le_of_lt there k),
-      inr (
-        (λ n. n long),
-        carried _ _ _ _ s r (TooWorn K (shown_of v f)) (λ k q _. (err k q, refl)) (λ p. absurd (ok_not_err s p.2 was)) finds,
-      ),
-    ),
-  )
-
 module _ (K : Code) (laws : Lawful K) where
-  pub reads_done : (v w : Meaning) (f : ℕ) (out out' xs : List ℕ) (s : Result Counts Refusal) (a : Counts) → f < v.frames → length out ≡ room K → w ≡ v
-      → Finds K (shown_of v f) s xs → s ≡ Ok a → out' ≡ take (room K) xs → Reads K v f out (Ok a) out' w
-  reads_done v w f out out' xs s a there long same finds ok is = (
-    same,
-    inr (
-      (λ k. not-le_of_lt there k),
-      inr (
-        (λ n. n long),
-        carried _ _ _ _ s (Ok a) (TooWorn K (shown_of v f)) (λ k q _. absurd (ok_not_err s ok q))
-            (λ p. (xs, record { frame = subst (λ t. K.frame_of t xs) (laws.record_front p.0 xs p.1.frame ∙ sym is) p.1.frame; fit = p.1.fit }, sym ok ∙ p.2)) finds,
-      ),
-    ),
-  )
-
   agree_fitting : (v w : Showing) → Agree K.m K.n v w → (rec xs : List ℕ) → Fitting K v rec xs → Fitting K w rec xs
   agree_fitting v w a rec xs p = record { frame = p.frame; fit = laws.agree_fits v w a xs p.fit }
 

@@ -1,7 +1,8 @@
 -- Code by tables of powers and logarithms: exponents add up to a product, and their difference from q - 1 gives an inverse.
 -- Assumes nothing.
-use Rattle.std.proofs.Common.{◌≡◌, ℕ, zero, suc, ◌+◌, ◌-◌, ◌*◌, ◌^◌, ◌<◌, ◌≤◌, cond, List, [], ◌∷◌, ◌++◌, get_or, replicate, sym, refl, ap, ◌∙◌, ap₂, inl, inr, ⊎_elim, arith, le-ltb, lt-ltb}
+use Rattle.std.proofs.Common.{◌≡◌, ℕ, zero, suc, ◌+◌, ◌-◌, ◌*◌, ◌^◌, ◌<◌, ◌≤◌, ltb, List, [], ◌∷◌, ◌++◌, get_or, replicate, sym, refl, ap, ◌∙◌, ap₂, inl, inr, ⊎_elim, arith, le-ltb, lt-ltb}
 use lib.ListN.{get_or-eq_default}
+use Rattle.std.proofs.lemmas.Bool.{cond-true, cond-false}
 use Rattle.std.proofs.lemmas.Bool.Decides.{leb_tells}
 use Rattle.laws.specs.Ops.{Ops, Laws, power}
 use Rattle.laws.specs.Binary.{product, raise, binary}
@@ -28,10 +29,10 @@ inverse_only F laws a r ha hr n e =
 
 module _ {w m g : ℕ} {exp log : List ℕ} (logs : Logs w m g exp log) where
   antilog_in : (k : ℕ) → k < 2 * (2 ^ w - 1) → antilog (binary w m g) k ≡ raise (product w m) g k
-  antilog_in k h = ap (λ b. cond b (power (binary w m g) g k) 0) (lt-ltb k (2 * (2 ^ w - 1)) h) ∙ power_raise logs k
+  antilog_in k h = cond-true (ltb k (2 * (2 ^ w - 1))) (power (binary w m g) g k) 0 (lt-ltb k (2 * (2 ^ w - 1)) h) ∙ power_raise logs k
 
   antilog_out : (k : ℕ) → 2 * (2 ^ w - 1) ≤ k → antilog (binary w m g) k ≡ 0
-  antilog_out k h = ap (λ b. cond b (power (binary w m g) g k) 0) (le-ltb k (2 * (2 ^ w - 1)) h)
+  antilog_out k h = cond-false (ltb k (2 * (2 ^ w - 1))) (power (binary w m g) g k) 0 (le-ltb k (2 * (2 ^ w - 1)) h)
 
   -- the table of powers, read
   pub antilog_at : (k : ℕ) → get_or exp k 0 ≡ antilog (binary w m g) k
@@ -50,9 +51,6 @@ module _ {w m g : ℕ} {exp log : List ℕ} (logs : Logs w m g exp log) where
 
   pub log_most : (a i : ℕ) → Log (binary w m g) a i → i ≤ 2 * 2 ^ w
   log_most a i = ⊎_elim (λ e. let z = e.1 in omega arith) (λ e. let l = e.0 in omega arith)
-
-  pub log_less : (a i : ℕ) → (a ≡ 0 → ⊥) → Log (binary w m g) a i → i < 2 ^ w - 1
-  log_less a i n = ⊎_elim (λ e. absurd (n e.0)) (λ e. let l = e.0 in omega arith)
 
   pub product_by_logs : (a b i j : ℕ) → a < 2 ^ w → b < 2 ^ w → Log (binary w m g) a i → Log (binary w m g) b j → antilog (binary w m g) (i + j) ≡ (binary w m g).mul a b
   product_by_logs a b i j ha hb (inl e) y =

@@ -1,5 +1,5 @@
 -- Additive functions are equal if they are equal at the powers of two: a number is the exclusive or of its bits. Assumes nothing.
-use Rattle.std.proofs.Common.{◌≡◌, ℕ, zero, suc, ◌*◌, ◌/◌, ◌%◌, ◌^◌, ◌<◌, sym, refl, ap, ◌∙◌, subst, ap₂, le_of_suc-le-suc, not-suc-le-zero, add-zero, pow-suc, div-add-mod', arith, lit<}
+use Rattle.std.proofs.Common.{◌≡◌, ℕ, zero, suc, ◌*◌, ◌/◌, ◌%◌, ◌^◌, ◌<◌, sym, refl, ap, ◌∙◌, subst, ap₂, add-zero, pow-suc, div-add-mod', arith, lit<}
 use lib.Bits.{bit_xor, xor_assoc, xor_comm, xor_self, xor_zero_r, xor_block, xor_shifted}
 use Rattle.std.proofs.lemmas.Nat.{mod_below, shr_below}
 use Rattle.laws.specs.Binary.{pick}
@@ -19,11 +19,11 @@ bit_below n = mod_below n 2 (lit< tt)
 pub pick_add : (s t v : ℕ) → s < 2 → t < 2 → pick (bit_xor s t) v ≡ bit_xor (pick s v) (pick t v)
 pick_add zero zero v hs ht = refl
 pick_add zero (suc zero) v hs ht = refl
-pick_add zero (suc (suc t)) v hs ht = absurd (not-suc-le-zero (le_of_suc-le-suc (le_of_suc-le-suc ht)))
+pick_add zero (suc (suc t)) v hs ht = absurd (omega arith)
 pick_add (suc zero) zero v hs ht = sym (xor_zero_r v)
 pick_add (suc zero) (suc zero) v hs ht = sym (xor_self v)
-pick_add (suc zero) (suc (suc t)) v hs ht = absurd (not-suc-le-zero (le_of_suc-le-suc (le_of_suc-le-suc ht)))
-pick_add (suc (suc s)) t v hs ht = absurd (not-suc-le-zero (le_of_suc-le-suc (le_of_suc-le-suc hs)))
+pick_add (suc zero) (suc (suc t)) v hs ht = absurd (omega arith)
+pick_add (suc (suc s)) t v hs ht = absurd (omega arith)
 
 abbrev pub Additive : (ℕ → ℕ) → Type 0
 Additive f = (a b : ℕ) → f (bit_xor a b) ≡ bit_xor (f a) (f b)
@@ -34,7 +34,7 @@ at_zero f h = h 0 0 ∙ xor_self (f 0)
 at_bit : (f g : ℕ → ℕ) → Additive f → Additive g → f 1 ≡ g 1 → (s : ℕ) → s < 2 → f s ≡ g s
 at_bit f g hf hg e zero h = at_zero f hf ∙ sym (at_zero g hg)
 at_bit f g hf hg e (suc zero) h = e
-at_bit f g hf hg e (suc (suc s)) h = absurd (not-suc-le-zero (le_of_suc-le-suc (le_of_suc-le-suc h)))
+at_bit f g hf hg e (suc (suc s)) h = absurd (omega arith)
 
 pub span : (k : ℕ) (f g : ℕ → ℕ) → Additive f → Additive g → ((i : ℕ) → i < k → f (2 ^ i) ≡ g (2 ^ i)) → (a : ℕ) → a < 2 ^ k → f a ≡ g a
 span zero f g hf hg e a h = let z : a ≡ 0 = omega arith in ap f z ∙ at_zero f hf ∙ sym (at_zero g hg) ∙ ap g (sym z)

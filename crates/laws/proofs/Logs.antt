@@ -1,11 +1,11 @@
 -- Tables of powers and logarithms, tested entry by entry, make the field of 2^w elements stand: each code but 0 is a power of g.
 -- Assumes nothing.
-use Rattle.std.proofs.Common.{◌≡◌, ℕ, zero, suc, ◌+◌, ◌-◌, ◌*◌, ◌^◌, ◌<◌, ◌≤◌, T, eqb, ltb, List, length, get_or, sym, refl, ap, ◌∙◌, not-suc-le-zero, mul_comm, arith, eqb→eq, ltb→lt}
+use Rattle.std.proofs.Common.{◌≡◌, ℕ, zero, suc, ◌+◌, ◌-◌, ◌*◌, ◌^◌, ◌<◌, ◌≤◌, ◌&&◌, T, eqb, ltb, List, length, get_or, sym, refl, ap, ◌∙◌, not-suc-le-zero, mul_comm, arith, eqb→eq, ltb→lt}
 use lib.Bits.{bit_xor, xor_assoc, xor_comm, xor_lt, xor_self, xor_zero_r}
 use Rattle.laws.specs.Ops.{Laws, power}
 use Rattle.laws.specs.Binary.{product, raise, reciprocal, binary}
-use Rattle.laws.proofs.Tests.{all, at, both, both_parts}
-use Rattle.laws.proofs.Within.{in_1, in_2, out_1, out_2, below_1, below_2}
+use Rattle.laws.proofs.Tests.{all, at, both_parts}
+use Rattle.laws.proofs.Within.{in_1, in_2, out_1, out_2, below_1, below_2, comm_2, assoc_2, distributed_2}
 use Rattle.laws.proofs.Steps.{steps, raise_at}
 use Rattle.laws.proofs.Product as by
 
@@ -19,7 +19,7 @@ pub record Logs (w m g : ℕ) (exp log : List ℕ) : Type 0 where
   pub twice : length exp ≡ 2 * (2 ^ w - 1)
   pub exps : T (steps (product w m g) 1 exp)
   pub cycle : get_or exp (2 ^ w - 1) 0 ≡ 1
-  pub exp_log : T (all (2 ^ w - 1) (λ a. both (ltb (get_or log (suc a) 0) (2 ^ w - 1)) (eqb (get_or exp (get_or log (suc a) 0) 0) (suc a))))
+  pub exp_log : T (all (2 ^ w - 1) (λ a. ltb (get_or log (suc a) 0) (2 ^ w - 1) && eqb (get_or exp (get_or log (suc a) 0) 0) (suc a)))
   pub log_exp : T (all (2 ^ w - 1) (λ k. eqb (get_or log (get_or exp k 0) 0) k))
 
 module _ {w m g : ℕ} {exp log : List ℕ} (logs : Logs w m g exp log) where
@@ -40,7 +40,7 @@ module _ {w m g : ℕ} {exp log : List ℕ} (logs : Logs w m g exp log) where
   log_at zero p h = absurd (not-suc-le-zero p)
   log_at (suc a) p h =
       let t : T (ltb (get_or log (suc a) 0) (2 ^ w - 1)) × T (eqb (get_or exp (get_or log (suc a) 0) 0) (suc a)) =
-      both_parts _ _ (at (2 ^ w - 1) (λ a. both (ltb (get_or log (suc a) 0) (2 ^ w - 1)) (eqb (get_or exp (get_or log (suc a) 0) 0) (suc a))) logs.exp_log a (omega arith)) in
+      both_parts _ _ (at (2 ^ w - 1) (λ a. ltb (get_or log (suc a) 0) (2 ^ w - 1) && eqb (get_or exp (get_or log (suc a) 0) 0) (suc a)) logs.exp_log a (omega arith)) in
       let l : get_or log (suc a) 0 < 2 ^ w - 1 = ltb→lt _ _ t.0 in
       (l, sym (exp_at (get_or log (suc a) 0) (omega arith)) ∙ eqb→eq _ _ t.1)
 
@@ -79,23 +79,8 @@ module _ {w m g : ℕ} {exp log : List ℕ} (logs : Logs w m g exp log) where
   unfolding reciprocal
   reciprocal_below a = by.raise_below w m logs.tested a (2 ^ w - 2)
 
-  sums : (a b c : ℕ) → a < 2 ^ w → b < 2 ^ w → c < 2 ^ w → (binary w m g).add ((binary w m g).add a b) c ≡ (binary w m g).add a ((binary w m g).add b c)
-  sums a b c ha hb hc =
-      ap (λ x. (binary w m g).add x c) (in_2 (2 ^ w) a b _ ha hb) ∙ in_2 (2 ^ w) (bit_xor a b) c _ (xor_lt w a b ha hb) hc ∙ xor_assoc a b c
-      ∙ sym (ap (λ x. (binary w m g).add a x) (in_2 (2 ^ w) b c _ hb hc) ∙ in_2 (2 ^ w) a (bit_xor b c) _ ha (xor_lt w b c hb hc))
-
-  products : (a b c : ℕ) → a < 2 ^ w → b < 2 ^ w → c < 2 ^ w → (binary w m g).mul ((binary w m g).mul a b) c ≡ (binary w m g).mul a ((binary w m g).mul b c)
-  products a b c ha hb hc =
-      ap (λ x. (binary w m g).mul x c) (in_2 (2 ^ w) a b _ ha hb) ∙ in_2 (2 ^ w) (product w m a b) c _ (by.mul_below w m logs.tested a b hb) hc
-      ∙ by.assoc w m logs.tested a b c hb hc
-      ∙ sym (ap (λ x. (binary w m g).mul a x) (in_2 (2 ^ w) b c _ hb hc) ∙ in_2 (2 ^ w) a (product w m b c) _ ha (by.mul_below w m logs.tested b c hc))
-
-  distributed : (a b c : ℕ) → a < 2 ^ w → b < 2 ^ w → c < 2 ^ w → (binary w m g).mul a ((binary w m g).add b c) ≡ (binary w m g).add ((binary w m g).mul a b) ((binary w m g).mul a c)
-  distributed a b c ha hb hc =
-      ap (λ x. (binary w m g).mul a x) (in_2 (2 ^ w) b c _ hb hc) ∙ in_2 (2 ^ w) a (bit_xor b c) _ ha (xor_lt w b c hb hc)
-      ∙ by.mul_add w m a b c
-      ∙ sym (ap (λ x. (binary w m g).add x ((binary w m g).mul a c)) (in_2 (2 ^ w) a b _ ha hb) ∙ ap (λ x. (binary w m g).add (product w m a b) x) (in_2 (2 ^ w) a c _ ha hc)
-      ∙ in_2 (2 ^ w) (product w m a b) (product w m a c) _ (by.mul_below w m logs.tested a b hb) (by.mul_below w m logs.tested a c hc))
+  product_code : (a b : ℕ) → a < 2 ^ w → b < 2 ^ w → product w m a b < 2 ^ w
+  product_code a b _ hb = by.mul_below w m logs.tested a b hb
 
   pub binary_laws : Laws (binary w m g)
   binary_laws = record {
@@ -105,21 +90,21 @@ module _ {w m g : ℕ} {exp log : List ℕ} (logs : Logs w m g exp log) where
     generator_code = logs.generator_code;
     add_code = λ a b. below_2 (2 ^ w) pos a b _ (xor_lt w a b);
     neg_code = λ a. below_1 (2 ^ w) pos a _ (λ h. h);
-    mul_code = λ a b. below_2 (2 ^ w) pos a b _ (λ ha hb. by.mul_below w m logs.tested a b hb);
+    mul_code = λ a b. below_2 (2 ^ w) pos a b _ (product_code a b);
     inv_code = λ a. below_1 (2 ^ w) pos a _ (λ h. reciprocal_below a);
     add_outside = λ a b. out_2 (2 ^ w) a b _;
     neg_outside = λ a. out_1 (2 ^ w) a _;
     mul_outside = λ a b. out_2 (2 ^ w) a b _;
     inv_outside = λ a. out_1 (2 ^ w) a _;
     inv_zero = in_1 (2 ^ w) 0 _ pos ∙ no_inverse;
-    add_comm = λ a b ha hb. in_2 (2 ^ w) a b _ ha hb ∙ xor_comm a b ∙ sym (in_2 (2 ^ w) b a _ hb ha);
-    add_assoc = sums;
+    add_comm = comm_2 (2 ^ w) bit_xor (xor_lt w) (λ a b _ _. xor_comm a b);
+    add_assoc = assoc_2 (2 ^ w) bit_xor (xor_lt w) (λ a b c _ _ _. xor_assoc a b c);
     add_zero = λ a h. in_2 (2 ^ w) a 0 _ h pos ∙ xor_zero_r a;
     add_neg = λ a h. ap (λ x. (binary w m g).add a x) (in_1 (2 ^ w) a a h) ∙ in_2 (2 ^ w) a a _ h h ∙ xor_self a;
-    mul_comm = λ a b ha hb. in_2 (2 ^ w) a b _ ha hb ∙ by.comm w m logs.tested a b ha hb ∙ sym (in_2 (2 ^ w) b a _ hb ha);
-    mul_assoc = products;
+    mul_comm = comm_2 (2 ^ w) (product w m) product_code (by.comm w m logs.tested);
+    mul_assoc = assoc_2 (2 ^ w) (product w m) product_code (λ a b c _ hb hc. by.assoc w m logs.tested a b c hb hc);
     mul_one = λ a h. in_2 (2 ^ w) a 1 _ h logs.tested.one_below ∙ by.comm w m logs.tested a 1 h logs.tested.one_below ∙ by.one_mul w m logs.tested a h;
     mul_inv = λ a h n. ap (λ x. (binary w m g).mul a x) (in_1 (2 ^ w) a _ h) ∙ in_2 (2 ^ w) a (reciprocal w m a) _ h (reciprocal_below a) ∙ inverse a h n;
-    mul_add = distributed;
+    mul_add = distributed_2 (2 ^ w) bit_xor (product w m) (xor_lt w) product_code (λ a b c _ _ _. by.mul_add w m a b c);
     powers_apart = apart;
   }

@@ -1,6 +1,7 @@
 -- The laws of the product modulo m, of degree w: it is additive in each factor, so tests at powers of two and at codes give the rest.
 -- Assumes nothing.
 use Rattle.std.proofs.Common.{◌≡◌, ℕ, zero, suc, ◌+◌, ◌-◌, ◌*◌, ◌/◌, ◌%◌, ◌^◌, ◌<◌, Bool, true, false, cond, T, eqb, ltb, sym, refl, ap, ◌∙◌, ap₂, add_comm, suc-add, mul-zero, zero-add, mul-suc, eqb→eq, ltb→lt, pow_pos}
+use Rattle.std.proofs.lemmas.Bool.{cond_both}
 use lib.Bits.{bit_xor, xor_lt, xor_shr, xor_mod}
 use Rattle.laws.specs.Binary.{pick, xtime, times, product, raise}
 use Rattle.laws.proofs.Linear.{swap, double, bit_below, pick_add, Additive, at_zero, span}
@@ -10,10 +11,6 @@ use Rattle.laws.proofs.Tests.{all, at, at2}
 cond_ap : (f : ℕ → ℕ) → f 0 ≡ 0 → (t : Bool) (v : ℕ) → f (cond t v 0) ≡ cond t (f v) 0
 cond_ap f z true v = refl
 cond_ap f z false v = z
-
-cond_below : (n : ℕ) → 0 < n → (t : Bool) (v : ℕ) → v < n → cond t v 0 < n
-cond_below n z true v h = h
-cond_below n z false v h = z
 
 module _ (w m : ℕ) where
   x_add : Additive (xtime w m)
@@ -72,7 +69,7 @@ module _ (w m : ℕ) (tested : Tested w m) where
 
   times_below : (k a b : ℕ) → b < 2 ^ w → times w m k a b < 2 ^ w
   times_below zero a b h = pow_pos w
-  times_below (suc k) a b h = xor_lt w _ _ (cond_below (2 ^ w) (pow_pos w) (eqb (a % 2) 1) b h) (times_below k (a / 2) (xtime w m b) (x_below b h))
+  times_below (suc k) a b h = xor_lt w _ _ (cond_both (eqb (a % 2) 1) b 0 (λ v. v < 2 ^ w) (λ _. h) (λ _. pow_pos w)) (times_below k (a / 2) (xtime w m b) (x_below b h))
 
   pub mul_below : (a b : ℕ) → b < 2 ^ w → product w m a b < 2 ^ w
   unfolding product

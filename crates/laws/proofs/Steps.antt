@@ -1,12 +1,12 @@
 -- A list holds the powers of a from exponent 0 on: one test, by one multiplication an entry. Assumes nothing.
-use Rattle.std.proofs.Common.{◌≡◌, ℕ, zero, suc, ◌+◌, ◌<◌, Bool, true, T, eqb, List, [], ◌∷◌, length, get_or, sym, ap, ◌∙◌, le_of_suc-le-suc, not-suc-le-zero, add-zero, add-suc, suc-add, zero-add, eqb→eq}
+use Rattle.std.proofs.Common.{◌≡◌, ℕ, zero, suc, ◌+◌, ◌<◌, Bool, true, ◌&&◌, T, eqb, List, [], ◌∷◌, length, get_or, sym, ap, ◌∙◌, le_of_suc-le-suc, not-suc-le-zero, add-zero, add-suc, suc-add, zero-add, eqb→eq}
 use Rattle.laws.specs.Binary.{raise}
-use Rattle.laws.proofs.Tests.{both, both_parts}
+use Rattle.laws.proofs.Tests.{both_parts}
 
 -- the list is y, f y, f (f y) and so on
 abbrev pub steps : (ℕ → ℕ) → ℕ → List ℕ → Bool
 steps f y [] = true
-steps f y (x ∷ xs) = both (eqb x y) (steps f (f y) xs)
+steps f y (x ∷ xs) = eqb x y && steps f (f y) xs
 
 module _ (mul : ℕ → ℕ → ℕ) (a : ℕ) where
   from : (xs : List ℕ) (i : ℕ) → T (steps (mul a) (raise mul a i) xs) → (k : ℕ) → k < length xs → get_or xs k 0 ≡ raise mul a (i + k)

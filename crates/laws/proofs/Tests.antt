@@ -1,17 +1,13 @@
 -- A test at each number below n passes at any of them: one computation stands for all. Assumes nothing.
-use Rattle.std.proofs.Common.{ℕ, zero, suc, ◌<◌, Bool, true, false, T, sym, subst, ⊎_elim, le_of_suc-le-suc, not-suc-le-zero, eq-or-lt_of_le}
+use Rattle.std.proofs.Common.{ℕ, zero, suc, ◌<◌, Bool, true, false, ◌&&◌, T, sym, subst, ⊎_elim, le_of_suc-le-suc, not-suc-le-zero, eq-or-lt_of_le}
 
-abbrev pub both : Bool → Bool → Bool
-both true b = b
-both false b = false
-
-pub both_parts : (a b : Bool) → T (both a b) → T a × T b
+pub both_parts : (a b : Bool) → T (a && b) → T a × T b
 both_parts true b t = (tt, t)
 both_parts false b t = absurd t
 
 abbrev pub all : ℕ → (ℕ → Bool) → Bool
 all zero f = true
-all (suc n) f = both (f n) (all n f)
+all (suc n) f = f n && all n f
 
 pub at : (n : ℕ) (f : ℕ → Bool) → T (all n f) → (k : ℕ) → k < n → T (f k)
 at zero f t k h = absurd (not-suc-le-zero h)

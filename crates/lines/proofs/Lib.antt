@@ -1,3 +1,1 @@
-pub mod Figures
-pub mod Laying
 pub mod Values

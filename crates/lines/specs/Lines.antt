@@ -1,4 +1,5 @@
 -- The line that a command prints, and the line of an error in the script itself.
+--   Answer      what a command answers, which the program calls by the same name
 --   figure      a space, and a number in decimal
 --   hex_digit   a hexadecimal digit, in upper case
 --   hex         a symbol in two hexadecimal digits
@@ -11,7 +12,7 @@
 --   no_line     why there is no line: the buffer has not 600 bytes, or the answer gives more symbols than any record has
 --   no_error_line   why there is no line for an error: the buffer has not 600 bytes
 -- Assumes nothing.
-use Rattle.std.specs.Prelude.{ℕ, ◌+◌, ◌/◌, ◌%◌, ◌<◌, cond, ◌≢◌, ◌⊎◌, List, [], ◌∷◌, ◌++◌, length, decimal, nat_lt}
+use Rattle.std.specs.Prelude.{ℕ, ◌+◌, ◌/◌, ◌%◌, ◌<◌, cond, ◌≢◌, ◌⊎◌, List, [], ◌∷◌, ◌++◌, length, Option, None, Some, Result, Ok, Err, decimal, nat_lt}
 use Rattle.std.specs.List.{flat_map}
 use Rattle.refusal.specs.declared.Refusal.{Refusal}
 use Rattle.refusal.specs.declared.Refusal.TheVariants.{WrongLength}
@@ -20,8 +21,10 @@ use Rattle.refusal.specs.Outcome.{Cause}
 use Rattle.script.specs.Grammar.{letter}
 use Rattle.script.specs.declared.grammar.Command.{Command}
 use Rattle.script.specs.declared.grammar.Command.TheVariants.{Store, Read, Mend, Copy, Write, Doubt, Gone}
-use Rattle.lines.specs.declared.line.Answer.{Answer}
-use Rattle.lines.specs.declared.line.Answer.TheVariants.{Done, Refused, Reading}
+use Rattle.lines.specs.declared.line.ReadBack.{ReadBack}
+
+abbrev pub Answer : Type 0
+Answer = Result (Option ReadBack) Refusal
 
 abbrev pub figure : ℕ → List ℕ
 figure n = 32 ∷ decimal n
@@ -45,10 +48,10 @@ abbrev pub named : Command → List ℕ
 named command = letter command ∷ frames command
 
 abbrev pub answered : Answer → List ℕ
-answered Done = figure 0
-answered (Refused cause) = figure (number_of cause)
-answered (Reading gone doubtful changed symbols) =
-    figure 0 ++ (figure gone ++ (figure doubtful ++ (figure changed ++ (32 ∷ flat_map hex symbols.now))))
+answered (Ok None) = figure 0
+answered (Ok (Some read)) =
+    figure 0 ++ (figure read.gone ++ (figure read.doubtful ++ (figure read.changed ++ (32 ∷ flat_map hex read.symbols.now))))
+answered (Err cause) = figure (number_of cause)
 
 abbrev pub line : Command → Answer → List ℕ
 line command answer = named command ++ (answered answer ++ (10 ∷ []))
@@ -57,9 +60,9 @@ abbrev pub error_line : Refusal → List ℕ
 error_line cause = 33 ∷ (figure (number_of cause) ++ (10 ∷ []))
 
 abbrev pub given : Answer → ℕ
-given Done = 0
-given (Refused cause) = 0
-given (Reading gone doubtful changed symbols) = length symbols.now
+given (Ok None) = 0
+given (Ok (Some read)) = length read.symbols.now
+given (Err cause) = 0
 
 abbrev pub no_line : Answer → List ℕ → List Cause
 no_line answer buffer = (WrongLength, (length buffer ≢ 600) ⊎ (255 < given answer)) ∷ []

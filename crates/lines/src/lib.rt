@@ -7,5 +7,5 @@ mod tests;
 mod text;
 mod theorems;
 
-pub use line::{Answer, answer_line, error_line};
+pub use line::{Answer, ReadBack, answer_line, error_line};
 pub use theorems::{decimals_read_back, symbols_read_back};

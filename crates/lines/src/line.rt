@@ -1,117 +1,68 @@
 // A line for a command and its answer, and a line for an error in the script.
-ghost use Rattle.std.specs.Prelude.{◌≡◌, ◌<◌, ◌≤◌, ◌∷◌, ◌++◌, length};
-ghost use Rattle.std.specs.List.{flat_map};
+ghost use Rattle.std.specs.Prelude.{◌≡◌, ◌+◌, ◌≤◌, ◌++◌, length};
 ghost use Rattle.refusal.specs.Outcome.{Outcome};
-ghost use Rattle.lines.specs.Lines.{answered, error_line, figure, given, hex, line, named, no_error_line, no_line};
-ghost use Rattle.lines.specs.Texts.{Prints, Puts};
+ghost use Rattle.lines.specs.Lines.{answered, error_line, given, line, named, no_error_line, no_line};
+ghost use Rattle.lines.specs.Texts.{Prints};
 
-use crate::text::{put, put_figure, put_hex};
+use crate::text::{LINE_SIZE, Line};
 use refusal::Refusal;
 use script::Command;
-
-/// How many bytes the buffer of a line has.
-const LINE_SIZE: usize = 600;
 
 /// How many symbols a record has at most.
 const RECORD_MOST: usize = 255;
 
-/// What a command answers.
-#[derive(Clone, Copy)]
-pub enum Answer<'a> {
-    /// The command was done.
-    Done,
-    /// The command was refused.
-    Refused(Refusal),
-    /// A record was read: the counts of what its frame had shown, and its symbols.
-    Reading {
-        gone: usize,
-        doubtful: usize,
-        changed: usize,
-        symbols: &'a [u8],
-    },
+/// A record that was read: the counts of what its frame had shown, and its symbols.
+// Stays: its counts are those of `fitting::Counts`, but lines builds on none of the code, only on `script` and `refusal`.
+#[derive(Clone, Copy, PartialEq, Eq, Debug)]
+pub struct ReadBack<'a> {
+    pub gone: usize,
+    pub doubtful: usize,
+    pub changed: usize,
+    pub symbols: &'a [u8],
 }
 
-/// How many symbols an answer gives.
-fn symbols_given(answer: Answer) -> usize
-    ensures value { result ≡ given answer.entry }
+/// What a command answers: that it was done, and for a read the record; or why it was refused.
+pub type Answer<'a> = Result<Option<ReadBack<'a>>, Refusal>;
+
+/// The letter of a command, and its frame numbers: at most `C 65535 65535`.
+fn put_command(line: &mut Line, command: Command)
+    requires { length line.old + 13 ≤ LINE_SIZE }
+    ensures value { line.new ≡ line.old ++ named command.entry }
+    ensures short { length line.new ≤ length line.old + 13 }
 {
-    match answer {
-        Answer::Done => 0,
-        Answer::Refused(_) => 0,
-        Answer::Reading { symbols, .. } => symbols.len(),
+    let (letter, frame) = match command {
+        Command::Store { frame, .. } => (b'S', frame),
+        Command::Read { frame } => (b'R', frame),
+        Command::Mend { frame } => (b'M', frame),
+        Command::Copy { source, .. } => (b'C', source),
+        Command::Write { frame, .. } => (b'W', frame),
+        Command::Doubt { frame, .. } => (b'D', frame),
+        Command::Gone { frame, .. } => (b'G', frame),
+    };
+    line.put(letter);
+    line.put_figure(frame);
+    if let Command::Copy { target, .. } = command {
+        line.put_figure(target);
     }
 }
 
-fn put_letter(out: &mut [u8], letter: u8, frame: u16) -> usize
-    requires room { length out.old ≡ 600 }
-    ensures value { Puts (letter ∷ figure frame) 0 out.old out.new result }
-    ensures below { result ≤ 7 }
+/// The number of an answer; for a record that was read also the counts and the symbols, 578 bytes at most.
+fn put_answer(line: &mut Line, answer: Answer)
+    requires { (length line.old + 578 ≤ LINE_SIZE) × (given answer ≤ RECORD_MOST) }
+    ensures value { line.new ≡ line.old ++ answered answer.entry }
+    ensures short { length line.new ≤ length line.old + 578 }
 {
-    let at = put(out, 0, letter);
-    put_figure(out, at, frame as usize)
-}
-
-fn put_copy(out: &mut [u8], source: u16, target: u16) -> usize
-    requires room { length out.old ≡ 600 }
-    ensures value { Puts (67 ∷ (figure source ++ figure target)) 0 out.old out.new result }
-    ensures below { result ≤ 13 }
-{
-    let at = put_letter(out, b'C', source);
-    put_figure(out, at, target as usize)
-}
-
-/// The letter of a command, and its frame numbers.
-fn put_command(out: &mut [u8], command: Command) -> usize
-    requires room { length out.old ≡ 600 }
-    ensures value { Puts (named command.entry) 0 out.old out.new result }
-    ensures below { result ≤ 13 }
-{
-    match command {
-        Command::Store { frame, .. } => put_letter(out, b'S', frame),
-        Command::Read { frame } => put_letter(out, b'R', frame),
-        Command::Mend { frame } => put_letter(out, b'M', frame),
-        Command::Copy { source, target } => put_copy(out, source, target),
-        Command::Write { frame, .. } => put_letter(out, b'W', frame),
-        Command::Doubt { frame, .. } => put_letter(out, b'D', frame),
-        Command::Gone { frame, .. } => put_letter(out, b'G', frame),
-    }
-}
-
-/// The number 0, three counts and a record.
-fn put_reading(
-    out: &mut [u8],
-    at: usize,
-    gone: usize,
-    doubtful: usize,
-    changed: usize,
-    symbols: &[u8],
-) -> usize
-    requires room { (length out.old ≡ 600) × ((at ≤ 13) × (length symbols.now ≤ 255)) }
-    ensures value { Puts (figure 0 ++ (figure gone ++ (figure doubtful ++ (figure changed ++ (32 ∷ flat_map hex symbols.now))))) at out.old out.new result }
-    ensures below { result < 600 }
-{
-    let number = put_figure(out, at, 0);
-    let first = put_figure(out, number, gone);
-    let second = put_figure(out, first, doubtful);
-    let third = put_figure(out, second, changed);
-    let space = put(out, third, b' ');
-    put_hex(out, space, symbols)
-}
-
-fn put_answer(out: &mut [u8], at: usize, answer: Answer) -> usize
-    requires room { (length out.old ≡ 600) × ((at ≤ 13) × (given answer ≤ 255)) }
-    ensures value { Puts (answered answer.entry) at out.old out.new result }
-    ensures below { result < 600 }
-{
-    match answer {
-        Answer::Done => put_figure(out, at, 0),
-        Answer::Refused(cause) => put_figure(out, at, u8::from(cause) as usize),
-        Answer::Reading {
-            gone,
-            doubtful,
-            changed,
-            symbols,
-        } => { put_reading(out, at, gone, doubtful, changed, symbols) }
+    let number = match answer {
+        Ok(_) => 0,
+        Err(cause) => u8::from(cause),
+    };
+    line.put_figure(number);
+    if let Ok(Some(read)) = answer {
+        line.put_figure(read.gone);
+        line.put_figure(read.doubtful);
+        line.put_figure(read.changed);
+        line.put(b' ');
+        line.put_hex(read.symbols);
     }
 }
 
@@ -120,12 +71,15 @@ fn put_answer(out: &mut [u8], at: usize, answer: Answer) -> usize
 pub fn answer_line(command: Command, answer: Answer, out: &mut [u8]) -> Result<usize, Refusal>
     ensures value { let before = out.old in let after = out.new in Outcome (no_line answer.entry before) (after ≡ before) (Prints (line command.entry answer.entry) before after result) result }
 {
-    if out.len() != LINE_SIZE || symbols_given(answer) > RECORD_MOST {
+    let is_long = matches!(answer, Ok(Some(read)) if read.symbols.len() > RECORD_MOST);
+    if out.len() != LINE_SIZE || is_long {
         return Err(Refusal::WrongLength);
     }
-    let named = put_command(out, command);
-    let answered = put_answer(out, named, answer);
-    Ok(put(out, answered, b'\n'))
+    let mut line = Line::new();
+    put_command(&mut line, command);
+    put_answer(&mut line, answer);
+    line.put(b'\n');
+    Ok(line.copy_to(out))
 }
 
 /// Makes the line of an error in the script at the front of a buffer, and answers the line's length.
@@ -136,7 +90,9 @@ pub fn error_line(cause: Refusal, out: &mut [u8]) -> Result<usize, Refusal>
     if out.len() != LINE_SIZE {
         return Err(Refusal::WrongLength);
     }
-    let mark = put(out, 0, b'!');
-    let number = put_figure(out, mark, u8::from(cause) as usize);
-    Ok(put(out, number, b'\n'))
+    let mut line = Line::new();
+    line.put(b'!');
+    line.put_figure(u8::from(cause));
+    line.put(b'\n');
+    Ok(line.copy_to(out))
 }

@@ -1,56 +1,84 @@
-// Bytes, numbers and symbols as text in a buffer, each from a place on; the answer is the place after it.
-ghost use Rattle.std.specs.Prelude.{◌≡◌, ◌+◌, ◌*◌, ◌<◌, ◌≤◌, [], ◌∷◌, length, decimal};
+// A line as far as it is made: bytes, numbers and symbols are put at its end.
+ghost use Rattle.std.specs.Prelude.{◌≡◌, ℕ, ◌+◌, ◌*◌, ◌<◌, ◌≤◌, List, [], ◌∷◌, ◌++◌, length, drop};
 ghost use Rattle.std.specs.List.{flat_map};
-ghost use Rattle.lines.specs.Lines.{figure, hex, hex_digit};
-ghost use Rattle.lines.specs.Texts.{Puts};
+ghost use Rattle.lines.specs.Lines.{hex, hex_digit};
 
-/// One byte.
-pub fn put(out: &mut [u8], at: usize, byte: u8) -> usize
-    requires room { at < length out.old }
-    ensures value { Puts (byte ∷ []) at out.old out.new result }
-{
-    out[at] = byte;
-    at + 1
+use arrayvec::ArrayVec;
+use itoa::{Buffer, Integer};
+use std::marker::Model;
+
+/// How many bytes the buffer of a line has.
+pub const LINE_SIZE: usize = 600;
+
+/// A line as far as it is made.
+#[derive(Drop)]
+pub struct Line {
+    bytes: ArrayVec<u8, LINE_SIZE>,
 }
 
-/// A number in decimal, without leading zeros.
-fn put_decimal(out: &mut [u8], at: usize, n: usize) -> usize
-    requires room { at + length (decimal n) ≤ length out.old }
-    ensures value { Puts (decimal n) at out.old out.new result }
-{
-    if n < 10 {
-        return put(out, at, b'0' + n as u8);
-    }
-    let last = put_decimal(out, at, n / 10);
-    put(out, last, b'0' + (n % 10) as u8)
+// Clauses see a line as its bytes.
+impl Model for Line {
+    ghost Value = { List ℕ };
+
+    ghost view = { λ line. line.bytes.items };
 }
 
-/// A space and a number. There must be room for the longest.
-pub fn put_figure(out: &mut [u8], at: usize, n: usize) -> usize
-    requires room { at + 21 ≤ length out.old }
-    ensures value { Puts (figure n) at out.old out.new result }
-    ensures below { (result ≤ at + 21) × ((n < 65536 → result ≤ at + 6)) }
-{
-    let first = put(out, at, b' ');
-    put_decimal(out, first, n)
-}
-
+// Stays: `encode_upper` of the crate `hex` needs an allocator, and `write!` with `{:02X}` never promises `Ok`.
 fn hex_digit(d: u8) -> u8
-    requires digit { d < 16 }
-    ensures value { result ≡ hex_digit d }
+    requires { d < 16 }
+    ensures { result ≡ hex_digit d }
 {
     if d < 10 { b'0' + d } else { b'A' - 10 + d }
 }
 
-/// Symbols in hexadecimal.
-pub fn put_hex(out: &mut [u8], at: usize, symbols: &[u8]) -> usize
-    requires room { at + 2 * length symbols.now ≤ length out.old }
-    ensures value { Puts (flat_map hex symbols.now) at out.old out.new result }
-{
-    let mut end = at;
-    for symbol in symbols {
-        end = put(out, end, hex_digit(*symbol / 16));
-        end = put(out, end, hex_digit(*symbol % 16));
+impl Line {
+    pub fn new() -> Self
+        ensures { result ≡ [] }
+    {
+        Line {
+            bytes: ArrayVec::new(),
+        }
     }
-    end
+
+    pub fn put(&mut self, byte: u8)
+        requires { length self.old < LINE_SIZE }
+        ensures { self.new ≡ self.old ++ byte ∷ [] }
+    {
+        self.bytes.push(byte);
+    }
+
+    /// A space, and a number in decimal.
+    pub fn put_figure<I: Integer>(&mut self, number: I)
+        requires { length self.old + 1 + I.MAX_STR_LEN ≤ LINE_SIZE }
+        ensures value { self.new ≡ self.old ++ 32 ∷ I.text number }
+        ensures short { length self.new ≤ length self.old + 1 + I.MAX_STR_LEN }
+    {
+        self.put(b' ');
+        let mut buffer = Buffer::new();
+        let digits = buffer.format(number).as_bytes();
+        self.bytes.try_extend_from_slice(digits).unwrap();
+    }
+
+    /// Symbols in hexadecimal.
+    pub fn put_hex(&mut self, symbols: &[u8])
+        requires { length self.old + 2 * length symbols.now ≤ LINE_SIZE }
+        ensures value { self.new ≡ self.old ++ flat_map hex symbols.now }
+        ensures long { length self.new ≡ length self.old + 2 * length symbols.now }
+    {
+        for &symbol in symbols {
+            self.put(hex_digit(symbol / 16));
+            self.put(hex_digit(symbol % 16));
+        }
+    }
+
+    /// Lays the line over the front of a buffer, and answers the line's length.
+    pub fn copy_to(&self, out: &mut [u8]) -> usize
+        requires { length self.now ≤ length out.old }
+        ensures value { result ≡ length self.now }
+        ensures front { out.new ≡ self.now ++ drop (length self.now) out.old }
+    {
+        let line = self.bytes.as_slice();
+        out[..line.len()].copy_from_slice(line);
+        line.len()
+    }
 }

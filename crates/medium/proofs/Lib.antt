@@ -1,4 +1,3 @@
-pub mod Counted
 pub mod Filling
 pub mod Inside
 pub mod Places

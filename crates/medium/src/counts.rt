@@ -1,29 +1,38 @@
 // The counts of a medium, within the limits.
-ghost use Rattle.std.specs.Prelude.{◌≡◌, ◌+◌, ◌*◌, ◌<◌, ◌≤◌, MatchResult};
+ghost use Rattle.std.specs.Prelude.{◌≡◌, ◌+◌, ◌*◌, ◌^◌, ◌<◌, ◌≤◌, ◌↔◌, IsTrue, MatchResult};
 ghost use Rattle.refusal.specs.declared.Refusal.TheVariants.{Unsuited};
-ghost use Rattle.medium.specs.Counts.{keeps, frame_count, strip_count, square_count};
 ghost use Rattle.medium.specs.Limits.{Suited};
 ghost use Rattle.medium.specs.Places.{size_of, strip_at};
 
 use refusal::Refusal;
+use std::marker::Model;
 
-/// How many frames a medium has, strips in a frame, squares in a strip.
-///
-/// Every value keeps the limits: only `new` makes one, from counts that do. No ghost field says so, since a medium that borrows
-/// its memory could then not stand for a type parameter; instead each count is 1 where the fields do not keep the limits.
-#[derive(Clone, Copy)]
+/// How many frames a medium has, strips in a frame, squares in a strip. Every value keeps the limits.
+#[derive(Clone, Copy, PartialEq, Eq, Debug)]
 pub struct Counts {
     frames: usize,
     strips: usize,
     squares: usize,
 }
 
+impl Model for Counts {
+    ghost use Rattle.medium.specs.Counts.{Shape};
+    ghost use Rattle.medium.specs.Limits.{Suited};
+
+    ghost Value = { Shape };
+
+    ghost view = { λ c. record { frames = c.frames; strips = c.strips; squares = c.squares } };
+
+    ghost invariant = { λ c. Suited c.frames c.strips c.squares };
+
+    ghost inverse = { λ s. record { frames = s.frames; strips = s.strips; squares = s.squares } };
+}
+
 // Whether counts keep the limits; no product passes a number's width.
 fn within_limits(frames: usize, strips: usize, squares: usize) -> bool
-    ensures value { result ≡ keeps frames strips squares }
+    ensures { IsTrue result ↔ Suited frames strips squares }
 {
-    frames >= 1
-        && frames <= 4096
+    (1..=4096).contains(&frames)
         && strips <= 255
         && squares <= 255
         && strips * squares >= 1
@@ -31,6 +40,8 @@ fn within_limits(frames: usize, strips: usize, squares: usize) -> bool
 }
 
 impl Counts {
+    ghost use Rattle.medium.specs.Counts.{frame_count, strip_count, square_count};
+
     /// The counts, if they keep the limits; else 2.
     pub fn new(frames: usize, strips: usize, squares: usize) -> Result<Counts, Refusal>
         ensures value { MatchResult result (λ c. (frame_count c ≡ frames) × (strip_count c ≡ strips) × (square_count c ≡ squares) × Suited frames strips squares) (λ e. (e ≡ Unsuited) × (Suited frames strips squares → ⊥)) }
@@ -45,32 +56,26 @@ impl Counts {
         })
     }
 
-    // Whether the fields keep the limits.
-    fn kept(&self) -> bool
-        ensures value { result ≡ keeps self.now.frames self.now.strips self.now.squares }
-    {
-        within_limits(self.frames, self.strips, self.squares)
-    }
-
     pub fn frames(&self) -> usize
         ensures value { result ≡ frame_count self.now }
         ensures below { (1 ≤ result) × (result ≤ 4096) }
+        ensures suited { Suited (frame_count self.now) (strip_count self.now) (square_count self.now) }
     {
-        if self.kept() { self.frames } else { 1 }
+        self.frames
     }
 
     pub fn strips(&self) -> usize
         ensures value { result ≡ strip_count self.now }
         ensures below { (1 ≤ result) × (result ≤ 255) }
     {
-        if self.kept() { self.strips } else { 1 }
+        self.strips
     }
 
     pub fn squares(&self) -> usize
         ensures value { result ≡ square_count self.now }
         ensures below { (1 ≤ result) × (result ≤ 255) }
     {
-        if self.kept() { self.squares } else { 1 }
+        self.squares
     }
 
     /// How many squares a frame has.
@@ -78,7 +83,21 @@ impl Counts {
         ensures value { result ≡ strip_count self.now * square_count self.now }
         ensures below { (1 ≤ result) × (result ≤ 255) }
     {
-        self.strips() * self.squares()
+        self.strips * self.squares
+    }
+
+    /// Whether there is such a strip.
+    pub fn has_strip(&self, frame: usize, strip: usize) -> bool
+        ensures { IsTrue result ↔ ((frame < frame_count self.now) × (strip < strip_count self.now)) }
+    {
+        frame < self.frames && strip < self.strips
+    }
+
+    /// Whether there is such a square.
+    pub fn has_square(&self, frame: usize, strip: usize, square: usize) -> bool
+        ensures { IsTrue result ↔ ((frame < frame_count self.now) × (strip < strip_count self.now) × (square < square_count self.now)) }
+    {
+        self.has_strip(frame, strip) && square < self.squares
     }
 
     /// How many bytes a memory has in which each strip takes `width` bytes. Asks for a width that a strip can have.
@@ -86,7 +105,7 @@ impl Counts {
         requires { width ≤ 511 }
         ensures value { result ≡ size_of (frame_count self.now) (strip_count self.now) width }
     {
-        self.frames() * self.strips() * width
+        self.frames * self.strips * width
     }
 
     /// Where a strip starts in such a memory. Asks for a strip that there is.
@@ -94,7 +113,8 @@ impl Counts {
         requires { (frame < frame_count self.now) × ((strip < strip_count self.now) × (width ≤ 511)) }
         ensures value { result ≡ strip_at (strip_count self.now) width frame strip }
         ensures below { result + width ≤ size_of (frame_count self.now) (strip_count self.now) width }
+        ensures small { result < 2 ^ 30 }
     {
-        (frame * self.strips() + strip) * width
+        (frame * self.strips + strip) * width
     }
 }

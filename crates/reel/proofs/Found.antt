@@ -1,7 +1,6 @@
 -- What is found in the notes of a look over a frame is found in the frame: the notes agree with what it shows. Assumes nothing.
-use Rattle.std.proofs.Common.{◌≡◌, ℕ, ◌*◌, ◌<◌, ◌≤◌, List, length, Ok, Result, ap, ◌∙◌, subst, inl, inr, ⊎_elim, mul-le-mul_left, mul-one, arith}
+use Rattle.std.proofs.Common.{◌≡◌, ℕ, ◌*◌, ◌<◌, List, length, Ok, Result, ap, ◌∙◌, subst, inl, inr, ⊎_elim}
 use Rattle.refusal.specs.declared.Refusal.{Refusal}
-use Rattle.refusal.proofs.Causes.{ok_not_err, settled}
 use Rattle.refusal.specs.Outcome.{Outcome}
 use Rattle.laws.specs.Ops.{Ops, Laws}
 use Rattle.geometry.specs.Rule.{Rule}
@@ -13,26 +12,16 @@ use Rattle.corrector.specs.Corrects.{no_correct, Corrected}
 use Rattle.attempts.specs.Shown.{shows}
 use Rattle.kept.specs.Shows.{shown_of, Agree}
 use Rattle.kept.specs.Code.{Lawful}
-use Rattle.kept.specs.Calls.{Suits, Finds, TooWorn}
+use Rattle.kept.specs.Calls.{Suits, Finds}
 use Rattle.kept.proofs.Lawful.{lawful}
 use Rattle.kept.proofs.Looks.{agree_noted}
 use Rattle.kept.proofs.Steps.{agree_finds}
 use Rattle.reel.specs.Sight.{Sighted}
 use Rattle.reel.specs.Calls.{code_on, Ready}
 
-few_strips : (n m : ℕ) → 1 ≤ m → n ≤ n * m
-few_strips n m some = subst (λ t. t ≤ n * m) (mul-one n) (mul-le-mul_left n some)
-
 module _ (F : Ops) (g : Geometry) where
   pub field_rule : g.order ≡ F.order → Rule F.order g.squares g.strips g.checks
   field_rule e = (g.rule.0, g.rule.1, g.rule.2, subst (λ q. g.strips * g.squares < q) e g.rule.3)
-
-  -- 255 bytes hold a frame, and a byte for each strip of it
-  pub frame_held : Laws F → g.order ≡ F.order → (k : ℕ) → 255 ≤ k → g.strips * g.squares ≤ k
-  frame_held L e k h = omega (arith, g.rule.3, L.order_most, e, h)
-
-  pub strips_held : Laws F → g.order ≡ F.order → (k : ℕ) → 255 ≤ k → g.strips ≤ k
-  strips_held L e k h = omega (arith, frame_held L e k h, few_strips g.strips g.squares g.rule.0)
 
   -- the code of a reel that is ready keeps what a reel takes for granted
   pub code_lawful : Laws F → g.order ≡ F.order → Lawful (code_on F g)
@@ -68,10 +57,3 @@ module _ (F : Ops) (g : Geometry) where
       agree_noted v f g.squares g.strips (shown_by codes strips squares) g.rule.0 suits.squares noted in
       agree_finds (code_on F g) (code_lawful L ready.order) (shown_by codes strips squares) (shown_of v f) r frame' agree
       (corrected codes strips squares frame frame' r ready.order lc ls lq lf done)
-
-  -- what is found is as long as a frame
-  pub found_long : (v : Meaning) (f : ℕ) (xs : List ℕ) (r : Result Counts Refusal) {a : Counts} → Finds (code_on F g) (shown_of v f) r xs → r ≡ Ok a → length xs ≡ g.strips * g.squares
-  found_long v f xs r o ok = elim (settled _ _ r (TooWorn (code_on F g) (shown_of v f)) o) [
-    | inl x ↦ absurd (ok_not_err r ok x.1)
-    | inr y ↦ y.1.1.frame.frame.size
-  ]

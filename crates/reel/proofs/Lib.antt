@@ -1,4 +1,4 @@
 pub mod Notes
 pub mod Found
-pub mod Encoded
 pub mod Loaded
+pub mod Keeping

@@ -1,8 +1,6 @@
--- What a test of a reel leads to: it is ready, or 2 is answered. Assumes nothing.
-use Rattle.std.proofs.Common.{◌≡◌, ℕ, ◌*◌, ◌<◌, ◌≤◌, Ok, Err, Result, sym, ◌∙◌, subst, inl, inr, ⊎_elim}
-use Rattle.std.proofs.lemmas.Bool.{cases_eq}
+-- What a reel that is ready leads to: a granted test, and calls that do what they say. Assumes nothing.
+use Rattle.std.proofs.Common.{◌≡◌, ℕ, ◌*◌, ◌<◌, ◌≤◌, Ok, Result, sym, ◌∙◌, subst, inr}
 use Rattle.refusal.specs.declared.Refusal.{Refusal}
-use Rattle.refusal.specs.declared.Refusal.TheVariants.{Unsuited}
 use Rattle.laws.specs.Ops.{Ops}
 use Rattle.geometry.specs.Rule.{Rule}
 use Rattle.geometry.specs.declared.Geometry.{Geometry}
@@ -13,11 +11,6 @@ use Rattle.reel.specs.Calls.{code_on, Ready}
 use Rattle.reel.specs.Loading.{Loads, LaidOut}
 
 module _ (F : Ops) (g : Geometry) (v : Meaning) {A : Type 0} (left does : Type 0) (r : Result A Refusal) where
-  pub unready : (Ready F g v → ⊥) → r ≡ Err Unsuited → left → Loaded g.order (code_on F g) v left does r
-  unready unfit e l = ⊎_elim
-      (λ same. inr ((λ n. n same), inl ((λ s. unfit (record { order = same; suits = s })), e, l)))
-      (λ ne. inl (ne, e, l)) (cases_eq g.order F.order)
-
   pub ready_does : Ready F g v → does → Loaded g.order (code_on F g) v left does r
   ready_does ready d = inr ((λ n. n ready.order), inr ((λ n. n ready.suits), d))
 
@@ -34,22 +27,3 @@ module _ (F : Ops) (v : Meaning) (q m n c : ℕ) (g : Geometry) (laid : LaidOut 
   tested r e ready =
       let suits : Suits (code_of F m n c) v = record { strips = ready.suits.strips ∙ laid.strips; squares = ready.suits.squares ∙ laid.squares; levels = ready.suits.levels } in
       inr ((λ no. no rule), inr ((λ ne. ne (sym laid.order ∙ ready.order)), inr ((λ no. no suits), (g, e, laid, ready))))
-
-  pub untested : (r : Result Geometry Refusal) → r ≡ Err Unsuited → (Ready F g v → ⊥) → Loads F v q m n c r
-  untested r e unfit =
-      inr (
-        (λ none. none rule),
-        ⊎_elim
-            (λ same. inr (
-              (λ ne. ne same),
-              inl (
-                (λ s. unfit (record {
-                  order = laid.order ∙ same;
-                  suits = record { strips = s.strips ∙ sym laid.strips; squares = s.squares ∙ sym laid.squares; levels = s.levels };
-                })),
-                e,
-                tt,
-              ),
-            ))
-            (λ ne. inl (ne, e, tt)) (cases_eq q F.order),
-      )

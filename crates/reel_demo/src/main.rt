@@ -9,28 +9,40 @@ use fitting::Counts;
 use medium::Medium;
 use reel::Reel;
 use refusal::Refusal;
-use std::io;
-use tray::Tray;
+use std::{fmt, io};
+use tray::{Tray, Wear};
 
-fn tell(rt: &impl Print, step: &str, answer: Result<Counts, Refusal>) -> io::Result<()> {
-    match answer {
-        Ok(
-            Counts {
-                gone,
-                doubtful,
-                changed,
-            },
-        ) => println!(rt;
-            "{step}: {gone} strips gone, {doubtful} squares doubtful, {changed} changed",
-        ),
-        Err(refusal) => println!(rt; "{step}: refused with {refusal}"),
+// What was found wrong with a frame, as it is told.
+#[derive(Clone, Copy)]
+struct Wrong(Counts);
+
+impl fmt::Display for Wrong {
+    fn fmt<W: fmt::Write>(&self, f: &mut fmt::Formatter<W>) -> fmt::Result {
+        let Counts {
+            gone,
+            doubtful,
+            changed,
+        } = self.0;
+        write!(
+            f,
+            "{gone} strips gone, {doubtful} squares doubtful, {changed} changed"
+        )
     }
 }
 
-fn tell_done(rt: &impl Print, step: &str, answer: Result<(), Refusal>) -> io::Result<()> {
+fn refused(rt: &impl Print, step: &str, refusal: Refusal) -> io::Result<()> {
+    println!(rt; "{step}: refused with {refusal}")
+}
+
+// Prints what a step answered.
+fn tell<T: fmt::Display + Drop>(
+    rt: &impl Print,
+    step: &str,
+    answer: Result<T, Refusal>,
+) -> io::Result<()> {
     match answer {
-        Ok(()) => println!(rt; "{step}: done"),
-        Err(refusal) => println!(rt; "{step}: refused with {refusal}"),
+        Ok(done) => println!(rt; "{step}: {done}"),
+        Err(refusal) => refused(rt, step, refusal),
     }
 }
 
@@ -41,9 +53,9 @@ fn read<M: Medium, F: Field>(
     reel: &mut Reel<M, F>,
     frame: usize,
 ) -> io::Result<()> {
-    let mut out = [0u8; 4];
-    let answer = reel.read(frame, &mut out);
-    tell(rt, step, answer)?;
+    let mut out = [0; 4];
+    let counts = reel.read(frame, &mut out);
+    tell(rt, step, counts.map(Wrong))?;
     let [a, b, c, d] = out;
     println!(rt; "    {a} {b} {c} {d}")
 }
@@ -55,12 +67,12 @@ fn on_tray(rt: &impl Print, memory: &mut [u8]) -> io::Result<()> {
     let tray = Tray::fresh(memory, counts);
     let geometry = match Reel::<Tray, Bytes>::test(&tray, 256, 2, 5, 3) {
         Ok(geometry) => geometry,
-        Err(refusal) => return tell_done(rt, "load a tray", Err(refusal)),
+        Err(refusal) => return refused(rt, "load a tray", refusal),
     };
     let mut reel = Reel::<Tray, Bytes>::load(tray, geometry);
     read(rt, "read a fresh tray", &mut reel, 0)?;
     let stored = reel.store(0, &[1, 20, 255, 0]);
-    tell_done(rt, "store 1 20 255 0 as frame 0", stored)?;
+    tell(rt, "store 1 20 255 0 as frame 0", stored.map(|()| "done"))?;
     let _ = reel.medium.set_gone(0, 1);
     let _ = reel.medium.set_code(0, 3, 0, 9);
     read(
@@ -70,18 +82,18 @@ fn on_tray(rt: &impl Print, memory: &mut [u8]) -> io::Result<()> {
         0,
     )?;
     let copied = reel.copy(0, 1);
-    tell(rt, "copy frame 0 to frame 1", copied)?;
+    tell(rt, "copy frame 0 to frame 1", copied.map(Wrong))?;
     read(rt, "read frame 1", &mut reel, 1)?;
     let mended = reel.mend(0);
-    tell(rt, "mend frame 0", mended)?;
+    tell(rt, "mend frame 0", mended.map(Wrong))?;
     read(rt, "read frame 0", &mut reel, 0)?;
     let _ = reel.medium.set_gone(0, 0);
     let _ = reel.medium.set_gone(0, 1);
     let _ = reel.medium.set_gone(0, 2);
     let mended = reel.mend(0);
-    tell(rt, "mend frame 0, three strips gone", mended)?;
-    let refused = reel.store(2, &[1, 2, 3, 4]);
-    tell_done(rt, "store as frame 2", refused)
+    tell(rt, "mend frame 0, three strips gone", mended.map(Wrong))?;
+    let stored = reel.store(2, &[1, 2, 3, 4]);
+    tell(rt, "store as frame 2", stored.map(|()| "done"))
 }
 
 fn on_card(rt: &impl Print, memory: &mut [u8]) -> io::Result<()> {
@@ -90,24 +102,24 @@ fn on_card(rt: &impl Print, memory: &mut [u8]) -> io::Result<()> {
     };
     let card = Card::over(memory, counts);
     if let Err(refusal) = Reel::<Card, Bytes>::test(&card, 256, 2, 5, 3) {
-        tell_done(rt, "load a card with bytes", Err(refusal))?;
+        refused(rt, "load a card with bytes", refusal)?;
     }
     let geometry = match Reel::<Card, Mod37>::test(&card, 37, 2, 5, 3) {
         Ok(geometry) => geometry,
-        Err(refusal) => return tell_done(rt, "load a card", Err(refusal)),
+        Err(refusal) => return refused(rt, "load a card", refusal),
     };
     let mut reel = Reel::<Card, Mod37>::load(card, geometry);
     let stored = reel.store(0, &[10, 11, 12, 36]);
-    tell_done(rt, "store 10 11 12 36 as frame 0", stored)?;
+    tell(rt, "store 10 11 12 36 as frame 0", stored.map(|()| "done"))?;
     read(rt, "read frame 0", &mut reel, 0)?;
     let mended = reel.mend(0);
-    tell(rt, "mend frame 0", mended)?;
+    tell(rt, "mend frame 0", mended.map(Wrong))?;
     let copied = reel.copy(0, 1);
-    tell(rt, "copy frame 0 to frame 1", copied)
+    tell(rt, "copy frame 0 to frame 1", copied.map(Wrong))
 }
 
 fn main(rt: HostRuntime) -> io::Result<()> {
-    let mut tray = [0u8; 50];
+    let mut tray = [0; 50];
     on_tray(&rt, &mut tray)?;
     let mut card = [b' '; 30];
     on_card(&rt, &mut card)?;

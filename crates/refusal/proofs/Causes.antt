@@ -1,5 +1,5 @@
 -- How an outcome is used. Assumes nothing.
-use Rattle.std.proofs.Common.{◌≡◌, ℕ, ◌⊎◌, List, [], ◌∷◌, Ok, Err, Result, inl, inr, arith}
+use Rattle.std.proofs.Common.{◌≡◌, ◌⊎◌, List, [], ◌∷◌, Ok, Err, Result, inl, inr}
 use Rattle.refusal.specs.declared.Refusal.{Refusal}
 use Rattle.refusal.specs.Outcome.{Cause, Outcome}
 
@@ -21,7 +21,7 @@ module _ {A : Type 0} (L P : Type 0) (r : Result A Refusal) where
   settled (c ∷ cs) (inr x) = elim (settled cs x.1) [ inl y ↦ inl y | inr y ↦ inr ((x.0, y.0), y.1) ]
 
 pub ok_not_err : {A : Type 0} (r : Result A Refusal) {a : A} {k : Refusal} → r ≡ Ok a → r ≡ Err k → ⊥
-ok_not_err r p q = let z : ◌≡◌ {A = ℕ} 0 1 = cc in omega arith
+ok_not_err r p q = cc
 
 pub same_ok : {A : Type 0} (r : Result A Refusal) {a b : A} → r ≡ Ok a → r ≡ Ok b → a ≡ b
 same_ok r p q = cc

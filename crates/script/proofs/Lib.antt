@@ -1,3 +1,1 @@
-pub mod Commanding
-pub mod Fronts
 pub mod Spelled

@@ -1,7 +1,6 @@
 -- A command's letter says how many bytes it takes, so that a script is cut in one way only. Assumes nothing.
 use Rattle.std.proofs.Common.{◌≡◌, ℕ, ◌+◌, ◌<◌, List, ◌++◌, length, get_or, take, drop, sym, refl, ap, ◌∙◌, subst, inl, inr, arith, length-append}
 use Rattle.std.proofs.lemmas.List.{drop_at, take_at}
-use Rattle.script.specs.declared.grammar.Parsed.{Parsed}
 use Rattle.script.specs.declared.grammar.Command.{Command}
 use Rattle.script.specs.declared.grammar.Command.TheVariants.{Store, Read, Mend, Copy, Write, Doubt, Gone}
 use Rattle.script.specs.Grammar.{Parses, Sized, operand_bytes, spelling, width}
@@ -25,32 +24,29 @@ spelled_known (Write f s k v) size rest = omega arith
 spelled_known (Doubt f s k) size rest = omega arith
 spelled_known (Gone f s) size rest = omega arith
 
-parsed_width : (script : List ℕ) (size : ℕ) (p : Parsed) → Parses script size p → length (spelling p.command) ≡ width size script
-parsed_width script size p h =
-    spelled_width p.command size p.rest.now h.1 ∙ ap (λ s. width size s) (sym h.0)
+parsed_width : (script : List ℕ) (size : ℕ) (c : Command) (r : List ℕ) → Parses script size c r → length (spelling c) ≡ width size script
+parsed_width script size c r h = spelled_width c size r h.1 ∙ ap (λ s. width size s) (sym h.0)
 
-parsed_known : (script : List ℕ) (size : ℕ) (p : Parsed) → Parses script size p → 0 < operand_bytes size (get_or script 0 0)
-parsed_known script size p h =
+parsed_known : (script : List ℕ) (size : ℕ) (c : Command) (r : List ℕ) → Parses script size c r → 0 < operand_bytes size (get_or script 0 0)
+parsed_known script size c r h =
     let Known : List ℕ → Type 0 = λ s. 0 < operand_bytes size (get_or s 0 0) in
-    subst Known (sym h.0) (spelled_known p.command size p.rest.now)
+    subst Known (sym h.0) (spelled_known c size r)
 
-front_is : (script : List ℕ) (size : ℕ) (p : Parsed) → Parses script size p → take (width size script) script ≡ spelling p.command
-front_is script size p h =
-    ap (λ s. take (width size script) s) h.0
-    ∙ take_at (spelling p.command) p.rest.now (width size script) (parsed_width script size p h)
+front_is : (script : List ℕ) (size : ℕ) (c : Command) (r : List ℕ) → Parses script size c r → take (width size script) script ≡ spelling c
+front_is script size c r h =
+    ap (λ s. take (width size script) s) h.0 ∙ take_at (spelling c) r (width size script) (parsed_width script size c r h)
 
-rest_is : (script : List ℕ) (size : ℕ) (p : Parsed) → Parses script size p → drop (width size script) script ≡ p.rest.now
-rest_is script size p h =
-    ap (λ s. drop (width size script) s) h.0
-    ∙ drop_at (spelling p.command) p.rest.now (width size script) (parsed_width script size p h)
+rest_is : (script : List ℕ) (size : ℕ) (c : Command) (r : List ℕ) → Parses script size c r → drop (width size script) script ≡ r
+rest_is script size c r h =
+    ap (λ s. drop (width size script) s) h.0 ∙ drop_at (spelling c) r (width size script) (parsed_width script size c r h)
 
 pub read_one_way : ReadOneWay
-read_one_way script size p q hp hq =
-    (sym (front_is script size p hp) ∙ front_is script size q hq, sym (rest_is script size p hp) ∙ rest_is script size q hq)
+read_one_way script size c d r s hc hd =
+    (sym (front_is script size c r hc) ∙ front_is script size d s hd, sym (rest_is script size c r hc) ∙ rest_is script size d s hd)
 
 pub refused_rightly : RefusedRightly
-refused_rightly script size p e h (inl unknown) = let known = parsed_known script size p h in omega (arith, unknown.1)
-refused_rightly script size p e h (inr short) =
-    let w = parsed_width script size p h in
-    let l : length script ≡ length (spelling p.command) + length p.rest.now = ap length h.0 ∙ length-append (spelling p.command) p.rest.now in
+refused_rightly script size c r e h (inl unknown) = let known = parsed_known script size c r h in omega (arith, unknown.1)
+refused_rightly script size c r e h (inr short) =
+    let w = parsed_width script size c r h in
+    let l : length script ≡ length (spelling c) + length r = ap length h.0 ∙ length-append (spelling c) r in
     omega (arith, short.0)

@@ -1,4 +1,6 @@
 -- How a script is written: a header, and then one command after another.
+--   field_byte  the byte that names a field
+--   NamesField  what the reading of a field's byte answers: the field that it names, or that the geometry is bad
 --   two_bytes   a number in two bytes, high byte first
 --   heading     the bytes of a header
 --   Opens       what a header's parser answers: the header and the rest that make up the script, or that the script ends early
@@ -13,13 +15,21 @@
 --   Commands    what a command's parser answers: the command and the rest, or why there is none
 -- Assumes nothing.
 use Rattle.std.specs.Prelude.{◌≡◌, ℕ, ◌+◌, ◌/◌, ◌%◌, ◌<◌, cond, ◌⊎◌, List, [], ◌∷◌, ◌++◌, length, Result, MatchResult, ◌==◌, slice_index}
+use Rattle.std.specs.Borrow.{Bor}
 use Rattle.refusal.specs.declared.Refusal.{Refusal}
-use Rattle.refusal.specs.declared.Refusal.TheVariants.{UnknownCommand, EndsEarly}
+use Rattle.refusal.specs.declared.Refusal.TheVariants.{BadGeometry, UnknownCommand, EndsEarly}
+use Rattle.script.specs.declared.grammar.FieldKind.{FieldKind}
+use Rattle.script.specs.declared.grammar.FieldKind.TheVariants.{Bytes, Mod37}
 use Rattle.script.specs.declared.grammar.Header.{Header}
-use Rattle.script.specs.declared.grammar.Opened.{Opened}
-use Rattle.script.specs.declared.grammar.Parsed.{Parsed}
 use Rattle.script.specs.declared.grammar.Command.{Command}
 use Rattle.script.specs.declared.grammar.Command.TheVariants.{Store, Read, Mend, Copy, Write, Doubt, Gone}
+
+abbrev pub field_byte : FieldKind → ℕ
+field_byte Bytes = 0
+field_byte Mod37 = 1
+
+abbrev pub NamesField : ℕ → Result FieldKind Refusal → Type 0
+NamesField byte r = MatchResult r (λ field. byte ≡ field_byte field) (λ e. (1 < byte) × (e ≡ BadGeometry))
 
 abbrev pub two_bytes : ℕ → List ℕ
 two_bytes n = n / 256 ∷ n % 256 ∷ []
@@ -27,8 +37,8 @@ two_bytes n = n / 256 ∷ n % 256 ∷ []
 abbrev pub heading : Header → List ℕ
 heading h = h.field ∷ h.squares ∷ h.strips ∷ h.checks ∷ two_bytes h.frames
 
-abbrev pub Opens : List ℕ → Result Opened Refusal → Type 0
-Opens script r = MatchResult r (λ o. script ≡ heading o.header ++ o.rest.now) (λ e. (length script < 6) × (e ≡ EndsEarly))
+abbrev pub Opens : List ℕ → Result (Header × Bor (List ℕ)) Refusal → Type 0
+Opens script r = MatchResult r (λ (header, rest). script ≡ heading header ++ rest.now) (λ e. (length script < 6) × (e ≡ EndsEarly))
 
 abbrev pub letter : Command → ℕ
 letter (Store frame symbols) = 83  -- S
@@ -73,13 +83,13 @@ Sized size (Write frame strip square code) = Unit {0}
 Sized size (Doubt frame strip square) = Unit {0}
 Sized size (Gone frame strip) = Unit {0}
 
-abbrev pub Parses : List ℕ → ℕ → Parsed → Type 0
-Parses script size p = (script ≡ spelling p.command ++ p.rest.now) × Sized size p.command
+abbrev pub Parses : List ℕ → ℕ → Command → List ℕ → Type 0
+Parses script size command rest = (script ≡ spelling command ++ rest) × Sized size command
 
 abbrev pub Fails : List ℕ → ℕ → Refusal → Type 0
 Fails script size e =
     ((0 < length script) × (operand_bytes size (slice_index script 0) ≡ 0) × (e ≡ UnknownCommand))
     ⊎ ((length script < width size script) × (e ≡ EndsEarly))
 
-abbrev pub Commands : List ℕ → ℕ → Result Parsed Refusal → Type 0
-Commands script size r = MatchResult r (λ p. Parses script size p) (λ e. Fails script size e)
+abbrev pub Commands : List ℕ → ℕ → Result (Command × Bor (List ℕ)) Refusal → Type 0
+Commands script size r = MatchResult r (λ (command, rest). Parses script size command rest.now) (λ e. Fails script size e)

@@ -4,12 +4,12 @@
 -- Assumes nothing.
 use Rattle.std.specs.Prelude.{◌≡◌, ℕ, List}
 use Rattle.refusal.specs.declared.Refusal.{Refusal}
-use Rattle.script.specs.declared.grammar.Parsed.{Parsed}
+use Rattle.script.specs.declared.grammar.Command.{Command}
 use Rattle.script.specs.Grammar.{Fails, Parses, spelling}
 
 abbrev pub ReadOneWay : Type 0
-ReadOneWay = (script : List ℕ) (size : ℕ) (p q : Parsed) → Parses script size p → Parses script size q
-    → (spelling p.command ≡ spelling q.command) × (p.rest.now ≡ q.rest.now)
+ReadOneWay = (script : List ℕ) (size : ℕ) (c d : Command) (r s : List ℕ) → Parses script size c r → Parses script size d s
+    → (spelling c ≡ spelling d) × (r ≡ s)
 
 abbrev pub RefusedRightly : Type 0
-RefusedRightly = (script : List ℕ) (size : ℕ) (p : Parsed) (e : Refusal) → Parses script size p → Fails script size e → ⊥
+RefusedRightly = (script : List ℕ) (size : ℕ) (c : Command) (r : List ℕ) (e : Refusal) → Parses script size c r → Fails script size e → ⊥

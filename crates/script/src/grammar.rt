@@ -1,13 +1,38 @@
 // What a script spells: its header, and one command after another.
-ghost use Rattle.std.specs.Prelude.{◌≡◌, ℕ, [], ◌∷◌};
-ghost use Rattle.script.specs.Grammar.{Commands, Opens, two_bytes};
+ghost use Rattle.std.specs.Prelude.{◌≡◌, ℕ, ◌<◌, ◌++◌, codes, length, MatchResult};
+ghost use Rattle.refusal.specs.declared.Refusal.TheVariants.{EndsEarly};
+ghost use Rattle.script.specs.Grammar.{Commands, NamesField, Opens, two_bytes};
 
 use refusal::Refusal;
 
+/// The field in which a script's frames lie. Its discriminant is its byte in the header.
+#[derive(Clone, Copy, PartialEq, Eq, Debug)]
+pub enum FieldKind {
+    /// The field of 256, for bytes.
+    Bytes = 0,
+    /// The field of 37, for cards.
+    Mod37 = 1,
+}
+
+impl TryFrom<u8> for FieldKind {
+    type Error = Refusal;
+
+    ghost try_from_gives = { NamesField };
+
+    fn try_from(byte: u8) -> Result<Self, Refusal> {
+        match byte {
+            0 => Ok(FieldKind::Bytes),
+            1 => Ok(FieldKind::Mod37),
+            _ => Err(Refusal::BadGeometry),
+        }
+    }
+}
+
 /// What the first six bytes of a script say.
-#[derive(Clone, Copy)]
+#[derive(Clone, Copy, PartialEq, Eq, Debug)]
 pub struct Header {
-    /// The field: 0 for bytes, 1 for cards.
+    /// The byte of the field.
+    // Stays: a header with any byte parses; `FieldKind::try_from` reads it.
     pub field: u8,
     /// Squares in a strip.
     pub squares: u8,
@@ -19,15 +44,8 @@ pub struct Header {
     pub frames: u16,
 }
 
-/// A header, and the commands that follow it.
-#[derive(Clone, Copy)]
-pub struct Opened<'a> {
-    pub header: Header,
-    pub rest: &'a [u8],
-}
-
 /// A command, with its operands.
-#[derive(Clone, Copy)]
+#[derive(Clone, Copy, PartialEq, Eq, Debug)]
 pub enum Command<'a> {
     Store {
         frame: u16,
@@ -60,154 +78,112 @@ pub enum Command<'a> {
     },
 }
 
-/// A command, and what follows it in the script.
-#[derive(Clone, Copy)]
-pub struct Parsed<'a> {
-    pub command: Command<'a>,
-    pub rest: &'a [u8],
-}
-
-/// The number of two bytes, high byte first.
-fn join(high: u8, low: u8) -> u16
-    ensures value { two_bytes result ≡ high ∷ low ∷ [] }
+/// A number of two bytes, high byte first, and what follows it.
+fn parse_number(script: &[u8]) -> Result<(u16, &[u8]), Refusal>
+    ensures value { MatchResult result
+        (λ (number, rest). script.now ≡ two_bytes number ++ rest.now)
+        (λ e. (length script.now < 2) × (e ≡ EndsEarly)) }
 {
-    256 * high as u16 + low as u16
+    let &[high, low, ref rest @ ..] = script else {
+        return Err(Refusal::EndsEarly);
+    };
+    Ok((u16::from_be_bytes([high, low]), rest))
 }
 
 /// The header of a script, and the rest of it. A script that ends inside the header is refused.
-pub fn parse_header<'a>(script: &'a [u8]) -> Result<Opened<'a>, Refusal>
+pub fn parse_header(script: &[u8]) -> Result<(Header, &[u8]), Refusal>
     ensures value { Opens script.now result }
 {
-    let [field, squares, strips, checks, high, low, rest @ ..] = script else {
+    let &[field, squares, strips, checks, ref rest @ ..] = script else {
         return Err(Refusal::EndsEarly);
     };
+    let (frames, rest) = parse_number(rest)?;
     let header = Header {
-        field: *field,
-        squares: *squares,
-        strips: *strips,
-        checks: *checks,
-        frames: join(*high, *low),
+        field,
+        squares,
+        strips,
+        checks,
+        frames,
     };
-    Ok(Opened { header, rest })
+    Ok((header, rest))
 }
 
-fn parse_store<'a>(operands: &'a [u8], record_size: usize) -> Result<Parsed<'a>, Refusal>
-    ensures value { Commands (83 ∷ operands.now) record_size result }
+fn parse_store(operands: &[u8], record_size: usize) -> Result<(Command<'_>, &[u8]), Refusal>
+    ensures value { Commands (codes "S" ++ operands.now) record_size result }
 {
-    let [high, low, tail @ ..] = operands else {
+    let (frame, rest) = parse_number(operands)?;
+    let Some((symbols, rest)) = rest.split_at_checked(record_size) else {
         return Err(Refusal::EndsEarly);
     };
-    let Some((symbols, rest)) = tail.split_at_checked(record_size) else {
-        return Err(Refusal::EndsEarly);
-    };
-    let frame = join(*high, *low);
-    Ok(Parsed {
-        command: Command::Store { frame, symbols },
-        rest,
-    })
+    Ok((Command::Store { frame, symbols }, rest))
 }
 
-fn parse_read<'a>(operands: &'a [u8]) -> Result<Parsed<'a>, Refusal>
-    ensures value { (size : ℕ) → Commands (82 ∷ operands.now) size result }
+fn parse_copy(operands: &[u8]) -> Result<(Command<'_>, &[u8]), Refusal>
+    ensures value { (size : ℕ) → Commands (codes "C" ++ operands.now) size result }
 {
-    let [high, low, rest @ ..] = operands else {
-        return Err(Refusal::EndsEarly);
-    };
-    let frame = join(*high, *low);
-    Ok(Parsed {
-        command: Command::Read { frame },
-        rest,
-    })
+    let (source, rest) = parse_number(operands)?;
+    let (target, rest) = parse_number(rest)?;
+    Ok((Command::Copy { source, target }, rest))
 }
 
-fn parse_mend<'a>(operands: &'a [u8]) -> Result<Parsed<'a>, Refusal>
-    ensures value { (size : ℕ) → Commands (77 ∷ operands.now) size result }
+// Stays: `parse_write`, `parse_doubt` and `parse_gone` each take their own operands by a pattern.
+fn parse_write(operands: &[u8]) -> Result<(Command<'_>, &[u8]), Refusal>
+    ensures value { (size : ℕ) → Commands (codes "W" ++ operands.now) size result }
 {
-    let [high, low, rest @ ..] = operands else {
+    let (frame, rest) = parse_number(operands)?;
+    let &[strip, square, code, ref rest @ ..] = rest else {
         return Err(Refusal::EndsEarly);
     };
-    let frame = join(*high, *low);
-    Ok(Parsed {
-        command: Command::Mend { frame },
-        rest,
-    })
+    let write = Command::Write {
+        frame,
+        strip,
+        square,
+        code,
+    };
+    Ok((write, rest))
 }
 
-fn parse_copy<'a>(operands: &'a [u8]) -> Result<Parsed<'a>, Refusal>
-    ensures value { (size : ℕ) → Commands (67 ∷ operands.now) size result }
+fn parse_doubt(operands: &[u8]) -> Result<(Command<'_>, &[u8]), Refusal>
+    ensures value { (size : ℕ) → Commands (codes "D" ++ operands.now) size result }
 {
-    let [high, low, to_high, to_low, rest @ ..] = operands else {
+    let (frame, rest) = parse_number(operands)?;
+    let &[strip, square, ref rest @ ..] = rest else {
         return Err(Refusal::EndsEarly);
     };
-    let source = join(*high, *low);
-    let target = join(*to_high, *to_low);
-    Ok(Parsed {
-        command: Command::Copy { source, target },
-        rest,
-    })
+    let doubt = Command::Doubt {
+        frame,
+        strip,
+        square,
+    };
+    Ok((doubt, rest))
 }
 
-fn parse_write<'a>(operands: &'a [u8]) -> Result<Parsed<'a>, Refusal>
-    ensures value { (size : ℕ) → Commands (87 ∷ operands.now) size result }
+fn parse_gone(operands: &[u8]) -> Result<(Command<'_>, &[u8]), Refusal>
+    ensures value { (size : ℕ) → Commands (codes "G" ++ operands.now) size result }
 {
-    let [high, low, strip, square, code, rest @ ..] = operands else {
+    let (frame, rest) = parse_number(operands)?;
+    let &[strip, ref rest @ ..] = rest else {
         return Err(Refusal::EndsEarly);
     };
-    let frame = join(*high, *low);
-    Ok(Parsed {
-        command: Command::Write {
-            frame,
-            strip: *strip,
-            square: *square,
-            code: *code,
-        },
-        rest,
-    })
-}
-
-fn parse_doubt<'a>(operands: &'a [u8]) -> Result<Parsed<'a>, Refusal>
-    ensures value { (size : ℕ) → Commands (68 ∷ operands.now) size result }
-{
-    let [high, low, strip, square, rest @ ..] = operands else {
-        return Err(Refusal::EndsEarly);
-    };
-    let frame = join(*high, *low);
-    Ok(Parsed {
-        command: Command::Doubt {
-            frame,
-            strip: *strip,
-            square: *square,
-        },
-        rest,
-    })
-}
-
-fn parse_gone<'a>(operands: &'a [u8]) -> Result<Parsed<'a>, Refusal>
-    ensures value { (size : ℕ) → Commands (71 ∷ operands.now) size result }
-{
-    let [high, low, strip, rest @ ..] = operands else {
-        return Err(Refusal::EndsEarly);
-    };
-    let frame = join(*high, *low);
-    Ok(Parsed {
-        command: Command::Gone {
-            frame,
-            strip: *strip,
-        },
-        rest,
-    })
+    Ok((Command::Gone { frame, strip }, rest))
 }
 
 /// The command that begins a script in which a record has `record_size` symbols, and the rest of the script.
 /// An unknown letter is refused, and so is a script that ends inside the command.
-pub fn parse_command<'a>(script: &'a [u8], record_size: usize) -> Result<Parsed<'a>, Refusal>
+pub fn parse_command(script: &[u8], record_size: usize) -> Result<(Command<'_>, &[u8]), Refusal>
     ensures value { Commands script.now record_size result }
 {
     match script {
         [] => Err(Refusal::EndsEarly),
         [b'S', operands @ ..] => parse_store(operands, record_size),
-        [b'R', operands @ ..] => parse_read(operands),
-        [b'M', operands @ ..] => parse_mend(operands),
+        [b'R', operands @ ..] => {
+            let (frame, rest) = parse_number(operands)?;
+            Ok((Command::Read { frame }, rest))
+        }
+        [b'M', operands @ ..] => {
+            let (frame, rest) = parse_number(operands)?;
+            Ok((Command::Mend { frame }, rest))
+        }
         [b'C', operands @ ..] => parse_copy(operands),
         [b'W', operands @ ..] => parse_write(operands),
         [b'D', operands @ ..] => parse_doubt(operands),

@@ -6,5 +6,5 @@ mod grammar;
 mod tests;
 mod theorems;
 
-pub use grammar::{Command, Header, Opened, Parsed, parse_command, parse_header};
+pub use grammar::{Command, FieldKind, Header, parse_command, parse_header};
 pub use theorems::{reading_is_unique, refusals_are_right};

@@ -1,11 +1,11 @@
 -- One turn of gathering, scattering, choosing and striking. Assumes nothing.
-use Rattle.std.proofs.Common.{◌≡◌, ℕ, suc, ◌+◌, ◌-◌, ◌<◌, Bool, true, false, cond, ◌≢◌, List, length, get_or, set, sym, ap, ◌∙◌, subst, inl, inr, add-one, arith, get_or-set_other, get_or-set_same}
+use Rattle.std.proofs.Common.{◌≡◌, ℕ, zero, suc, ◌+◌, ◌-◌, ◌<◌, ◌≤◌, Bool, true, false, cond, ◌≢◌, List, length, get_or, set, take, sym, refl, ap, ◌∙◌, subst, inl, inr, add-one, arith, get_or-set_other, get_or-set_same, get_or-take}
 use borrow.Rule.Slice.PartMut.{put_mid}
 use Rattle.std.proofs.lemmas.Bool.{cases_eq}
 use Rattle.laws.specs.Ops.{Ops}
 use Rattle.algebra.specs.Showings.{count}
 use Rattle.solver.specs.Sums.{marked, struck, value, Choice, Peeled}
-use Rattle.solver.proofs.Ranks.{count_true, count_false, count_room}
+use Rattle.algebra.proofs.Counting.{count_true, count_room}
 use Rattle.solver.proofs.Parts.{part, length_part, get_d_part, put_in}
 
 abbrev pub Gathered : List ℕ → (ℕ → Bool) → ℕ → ℕ → List ℕ → Type 0
@@ -21,37 +21,8 @@ gather_true points p j k k' out out' h e l eo ek = (
   ],
 )
 
-pub gather_false : (points : List ℕ) (p : ℕ → Bool) (j k k' : ℕ) (out out' : List ℕ) → Gathered points p j k out → p j ≡ false → out' ≡ out → k' ≡ k → Gathered points p (j + 1) k' out'
-gather_false points p j k k' out out' h e eo ek = (
-  ek ∙ (let s = h.0 in let q = count_false p j e in rw (add-one j) (cc)),
-  λ i m pi. ap (λ o. get_or o (count i p) 0) eo ∙ elim (cases_eq i j) [
-    | inl q ↦ (let bad : true ≡ false = sym pi ∙ ap p q ∙ e in let z : ◌≡◌ {A = ℕ} 0 1 = cc in absurd (omega arith))
-    | inr n ↦ h.1 i (omega arith) pi
-  ],
-)
-
 abbrev pub Scattered : List ℕ → (ℕ → Bool) → ℕ → ℕ → List ℕ → Type 0
 Scattered values p j k out = (k ≡ count j p) × ((i : ℕ) → i < j → get_or out i 0 ≡ cond (p i) (get_or values (count i p) 0) 0)
-
-scatter_more : (values : List ℕ) (p : ℕ → Bool) (j k : ℕ) (out out' : List ℕ) (v : ℕ) → Scattered values p j k out → j < length out → v ≡ cond (p j) (get_or values (count j p) 0) 0 → out' ≡ set out j v
-    → (i : ℕ) → i < j + 1 → get_or out' i 0 ≡ cond (p i) (get_or values (count i p) 0) 0
-scatter_more values p j k out out' v h l ev eo i m = ap (λ o. get_or o i 0) eo ∙ elim (cases_eq i j) [
-  | inl q ↦ ap (λ t. get_or (set out j v) t 0) q ∙ get_or-set_same out j v 0 l ∙ ev ∙ ap (λ t. cond (p t) (get_or values (count t p) 0) 0) (sym q)
-  | inr n ↦ get_or-set_other out j i v 0 n ∙ h.1 i (omega arith)
-]
-
-pub scatter_true : (values : List ℕ) (p : ℕ → Bool) (j k k' : ℕ) (out out' : List ℕ) → Scattered values p j k out → p j ≡ true → j < length out
-    → out' ≡ set out j (get_or values k 0) → k' ≡ k + 1 → Scattered values p (j + 1) k' out'
-scatter_true values p j k k' out out' h e l eo ek = (
-  ek ∙ (let s = h.0 in let q = count_true p j e in rw (add-one j) (cc)),
-  scatter_more values p j k out out' (get_or values k 0) h l (ap (λ t. get_or values t 0) h.0 ∙ sym (ap (λ b. cond b (get_or values (count j p) 0) 0) e)) eo,
-)
-
-pub scatter_false : (values : List ℕ) (p : ℕ → Bool) (j k k' : ℕ) (out out' : List ℕ) → Scattered values p j k out → p j ≡ false → j < length out → out' ≡ set out j 0 → k' ≡ k → Scattered values p (j + 1) k' out'
-scatter_false values p j k k' out out' h e l eo ek = (
-  ek ∙ (let s = h.0 in let q = count_false p j e in rw (add-one j) (cc)),
-  scatter_more values p j k out out' 0 h l (sym (ap (λ b. cond b (get_or values (count j p) 0) 0) e)) eo,
-)
 
 -- a mask that is set at j keeps its choices below
 pub choice_more : (F : Ops) (points : List ℕ) (gone : List Bool) (ws : List ℕ) (n : ℕ) (mask mask' : List Bool) (j : ℕ) (b : Bool) → j < length mask → mask' ≡ set mask j b
@@ -67,15 +38,19 @@ choice_more F points gone ws n mask mask' j b l e h out root i m = elim (cases_e
     at : marked mask' j ≡ b
     at = ap (λ o. marked o j) e ∙ get_or-set_same mask j b false l
 
+-- the first n weights have the values that all have
+value_take : (F : Ops) (ws : List ℕ) (x n k m : ℕ) → k + m ≤ n → value F (take n ws) x k m ≡ value F ws x k m
+value_take F ws x n k zero h = refl
+value_take F ws x n k (suc m) h = let ih = value_take F ws x n (suc k) m (omega arith) in let e = get_or-take n ws k 0 (omega arith) in cc
+
+pub choice_front : (F : Ops) (points : List ℕ) (gone : List Bool) (ws : List ℕ) (n : ℕ) (mask : List Bool) (j : ℕ) → length (take n ws) ≡ n → Choice F points gone (take n ws) (length (take n ws)) mask j
+    → Choice F points gone ws n mask j
+choice_front F points gone ws n mask j l h =
+    let e : value F (take n ws) (get_or points j 0) 0 (length (take n ws)) ≡ value F ws (get_or points j 0) 0 n = ap (value F (take n ws) (get_or points j 0) 0) l ∙ value_take F ws (get_or points j 0) n 0 n (omega arith) in
+    record { out = λ z. ((h.out z).0, λ q. (h.out z).1 (e ∙ q)); root = λ z y. sym e ∙ h.root z y }
+
 abbrev pub Struck : Ops → List ℕ → List Bool → List ℕ → ℕ → ℕ → List ℕ → Type 0
 Struck F points gone vs j k values = (k ≡ count j (marked gone)) × ((i : ℕ) → k + i < length vs → get_or values (k + i) 0 ≡ struck F points gone vs j i)
-
-pub strike_false : (F : Ops) (points : List ℕ) (gone : List Bool) (vs : List ℕ) (j k k' : ℕ) (values values' : List ℕ) → Struck F points gone vs j k values → marked gone j ≡ false
-    → values' ≡ values → k' ≡ k → Struck F points gone vs (j + 1) k' values'
-strike_false F points gone vs j k k' values values' h e ev ek = (
-  ek ∙ (let s = h.0 in let q = count_false (marked gone) j e in rw (add-one j) (cc)),
-  λ i l. rw (add-one j, e) (cc (ek, ev, h.1 i (omega arith))),
-)
 
 pub strike_true : (F : Ops) (points : List ℕ) (gone : List Bool) (vs : List ℕ) (j k k' : ℕ) (values values' ps : List ℕ) → Struck F points gone vs j k values → marked gone j ≡ true
     → k < length values → length values ≡ length vs → length ps ≡ length values - k → Peeled F (get_or points j 0) (part k (length values) values) ps

@@ -1,9 +1,9 @@
 -- Elements of a list's rest, and of a list that is written in part. Assumes nothing.
-use Rattle.std.proofs.Common.{◌≡◌, ℕ, zero, suc, ◌+◌, ◌-◌, ◌<◌, ◌≤◌, List, ◌++◌, length, get_or, take, drop, sym, refl, ap, ◌∙◌, add-zero, arith, length-append, length-drop, length-take, get_or-drop, get_or-take, get_or-append-add}
+use Rattle.std.proofs.Common.{◌≡◌, ℕ, zero, suc, ◌+◌, ◌-◌, ◌<◌, ◌≤◌, List, ◌++◌, length, get_or, take, drop, sym, refl, ap, ◌∙◌, add-zero, arith, length-drop, length-take, get_or-drop, get_or-take, get_or-append-add}
 use Rattle.std.proofs.lemmas.Slice.{drop-put_mid}
 use lib.ListN.{get_or-append}
 use borrow.Rule.Slice.PartMut.{put_mid, post_of}
-use Rattle.laws.specs.Ops.{Ops, sum}
+use Rattle.laws.specs.Ops.{Ops, Laws, power, sum}
 
 abbrev pub part : ℕ → ℕ → List ℕ → List ℕ
 part i j xs = take (j - i) (drop i xs)
@@ -26,15 +26,9 @@ pub sum_cong : (F : Ops) (k : ℕ) (f f' : ℕ → ℕ) → ((i : ℕ) → i < k
 sum_cong F zero f f' h = refl
 sum_cong F (suc k) f f' h = let e = h k (omega arith) in let ih = sum_cong F k f f' (λ i l. h i (omega arith)) in cc
 
--- what lies behind k in a list that is written from the front
-pub length_window : (k c : ℕ) (ps rest : List ℕ) → length ps ≡ c → length (take (c - k) (drop k (ps ++ rest))) ≡ c - k
-length_window k c ps rest e = simp (length-take, length-drop, length-append) (omega arith)
-
-pub get_d_window : (k c : ℕ) (ps rest : List ℕ) → length ps ≡ c → (i : ℕ) → i < c - k → get_or (take (c - k) (drop k (ps ++ rest))) i 0 ≡ get_or ps (k + i) 0
-get_d_window k c ps rest e i l = get_or-take (c - k) (drop k (ps ++ rest)) i 0 l ∙ get_or-drop k (ps ++ rest) i 0 ∙ get_or-append ps rest 0 (k + i) (omega arith)
-
-pub length_front : (n : ℕ) (xs : List ℕ) → n ≤ length xs → length (take n xs) ≡ n
-length_front n xs h = simp length-take (omega arith)
+pub power_code : (F : Ops) (L : Laws F) (x k : ℕ) → power F x k < F.order
+power_code F L x zero = omega (arith, L.order_least)
+power_code F L x (suc k) = L.mul_code x (power F x k)
 
 pub put_after : (a k : ℕ) (xs ys : List ℕ) (i : ℕ) → a + k ≤ i → a ≤ length xs → length ys ≡ k → get_or (put_mid a k xs ys) i 0 ≡ get_or xs i 0
 put_after a k xs ys i h l e =

@@ -6,7 +6,7 @@ use Rattle.std.proofs.lemmas.Bool.{cases_Bool}
 use Rattle.laws.specs.Ops.{Ops, Laws, power as power_f, sum as sum_f}
 use Rattle.algebra.specs.Showings.{count}
 use Rattle.algebra.proofs.Ring.{zero_mul}
-use Rattle.algebra.proofs.Codes.{codes, zero_code}
+use Rattle.algebra.proofs.Codes.{codes, at, at_code, sum_code}
 use Rattle.algebra.proofs.Moments as M
 use Rattle.algebra.proofs.Roots as R
 use Rattle.algebra.proofs.Rows as Q
@@ -14,9 +14,9 @@ use Rattle.algebra.proofs.Listing.{listed, length_listed, in_listed, from_listed
 use Rattle.refusal.specs.Codes.{Below}
 use Rattle.laws.specs.Ops.{less}
 use Rattle.solver.specs.Sums.{Apart, marked, struck, value, moment, Choice, Row, Word, Located, Restored, Kernel}
-use Rattle.solver.proofs.Solving.{at, at_code, moment_val}
+use Rattle.solver.proofs.Solving.{moment_val}
 use Rattle.solver.proofs.Kernels.{cond_val, app_val}
-use Rattle.solver.proofs.Parts.{sum_cong}
+use Rattle.solver.proofs.Parts.{power_code, sum_cong}
 use Rattle.solver.proofs.Ranks.{select}
 
 module _ (F : Ops) (L : Laws F) where
@@ -82,21 +82,13 @@ module _ (F : Ops) (L : Laws F) where
         | inr h ↦ inl (native.Mathlib.Fin.val_path (res.zeros i k h ∙ sym (loc.zeros wrong e word i k h)))
       ]) j l)
 
-  sum_code : (k : ℕ) (f : ℕ → ℕ) → sum_f F k f < F.order
-  sum_code zero f = zero_code F L
-  sum_code (suc k) f = L.add_code _ _
-
-  power_code : (x i : ℕ) → power_f F x i < F.order
-  power_code x zero = L.order_least
-  power_code x (suc i) = L.mul_code _ _
-
   sum_ranked : (n : ℕ) (p : ℕ → Bool) (g : ℕ → ℕ) → sum_f F n (λ j. cond (p j) (g (count j p)) 0) ≡ sum_f F (count n p) g
   sum_ranked zero p g = refl
   sum_ranked (suc n) p g =
       ap (λ z. F.add z (cond (p n) (g (count n p)) 0)) (sum_ranked n p g)
       ∙ elim (p n) as (λ b. F.add (sum_f F (count n p) g) (cond b (g (count n p)) 0) ≡ sum_f F (count n p + cond b 1 0) g) [
         | true ↦ rw (add-one (count n p)) refl
-        | false ↦ L.add_zero (sum_f F (count n p) g) (sum_code (count n p) g) ∙ ap (λ k. sum_f F k g) (sym (N.add-zero (count n p)))
+        | false ↦ L.add_zero (sum_f F (count n p) g) (sum_code F L (count n p) g) ∙ ap (λ k. sum_f F k g) (sym (N.add-zero (count n p)))
       ]
 
   module _ (points : List ℕ) (p : ℕ → Bool) (bp : Below F.order points) (apart : Apart points) (ch : List ℕ) (size : length ch ≡ count (length points) p)
@@ -119,7 +111,7 @@ module _ (F : Ops) (L : Laws F) where
         sum_cong F (length points) (λ j. F.mul (get_or out j 0) (power_f F (get_or points j 0) i)) (λ j. cond (p j) (g (count j p)) 0)
         (λ j l. elim (cases_Bool (p j)) [
           | inl e ↦ cc (h j l ∙ ap (λ b. cond b (get_or zs (count j p) 0) 0) e, gathered j l e, ap (λ b. cond b (g (count j p)) 0) e)
-          | inr e ↦ cc (h j l ∙ ap (λ b. cond b (get_or zs (count j p) 0) 0) e, ap (λ b. cond b (g (count j p)) 0) e, ap (λ z. z.0) (zero_mul (codes F L) (power_f F (get_or points j 0) i, power_code (get_or points j 0) i)))
+          | inr e ↦ cc (h j l ∙ ap (λ b. cond b (get_or zs (count j p) 0) 0) e, ap (λ b. cond b (g (count j p)) 0) e, ap (λ z. z.0) (zero_mul (codes F L) (power_f F (get_or points j 0) i, power_code F L (get_or points j 0) i)))
         ])
         ∙ sum_ranked (length points) p g ∙ ap (λ k. sum_f F k g) (sym size)
       where

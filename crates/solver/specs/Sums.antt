@@ -56,9 +56,6 @@ pub record Filled (f : ℕ → ℕ) (n : ℕ) (zs : List ℕ) : Type 0 where
 abbrev pub combined : Ops → ℕ → ℕ → ℕ → List ℕ → List ℕ → ℕ → ℕ
 combined F ka kb d xs ws u = less F (shifted ka xs u) (F.mul d (shifted kb ws u))
 
-abbrev pub scaled : Ops → ℕ → List ℕ → ℕ → ℕ
-scaled F d xs u = F.mul d (slice_index xs u)
-
 abbrev pub marked : List Bool → ℕ → Bool
 marked xs j = slice_index_or xs j false
 

@@ -16,39 +16,33 @@ fn strike<F: Field>(points: &[u8], gone: &[bool], values: &mut [u8]) -> usize
     ensures rest { (i : ℕ) → result + i < length values.old → slice_index values.new (result + i) ≡ struck F.Field.ops points.now gone.now values.old (length points.now) i }
 {
     let mut k = 0;
-    for j in 0..points.len() {
-        if gone[j] {
-            peel::<F>(points[j], &mut values[k..]);
+    for (point, is_gone) in points.iter().zip(gone) {
+        if *is_gone {
+            peel::<F>(*point, &mut values[k..]);
             k += 1;
         }
     }
     k
 }
 
-// The sum of the first n weights times the powers of x.
-fn evaluate<F: Field>(ws: &[u8; 128], n: usize, x: u8) -> u8
-    requires { n ≤ 128 }
-    ensures { result ≡ value F.Field.ops ws.now x 0 n }
+// The sum of the weights times the powers of x.
+fn evaluate<F: Field>(ws: &[u8], x: u8) -> u8
+    ensures { result ≡ value F.Field.ops ws.now x 0 (length ws.now) }
 {
     let mut all = 0;
-    for u in (0..n).rev() {
-        all = F::add(ws[u], F::mul(x, all));
+    for w in ws.iter().rev() {
+        all = F::add(*w, F::mul(x, all));
     }
     all
 }
 
-fn choose<F: Field>(points: &[u8], gone: &[bool], ws: &[u8; 128], n: usize, mask: &mut [bool])
-    requires { (length gone.now ≡ length points.now) × ((length mask.old ≡ length points.now) × (n ≤ 128)) }
-    ensures { (j : ℕ) → j < length points.now → Choice F.Field.ops points.now gone.now ws.now n mask.new j }
+// Marks the places that are gone or whose point is a root.
+fn choose<F: Field>(points: &[u8], gone: &[bool], ws: &[u8], mask: &mut [bool])
+    requires { (length gone.now ≡ length points.now) × (length mask.old ≡ length points.now) }
+    ensures { (j : ℕ) → j < length points.now → Choice F.Field.ops points.now gone.now ws.now (length ws.now) mask.new j }
 {
-    for j in 0..points.len() {
-        if gone[j] {
-            mask[j] = true;
-        } else if evaluate::<F>(ws, n, points[j]) == 0 {
-            mask[j] = true;
-        } else {
-            mask[j] = false;
-        }
+    for (j, mark) in mask.iter_mut().enumerate() {
+        *mark = gone[j] || evaluate::<F>(ws, points[j]) == 0;
     }
 }
 
@@ -59,9 +53,9 @@ fn gather(points: &[u8], mask: &[bool], out: &mut [u8]) -> usize
     ensures picked { (j : ℕ) → j < length points.now → marked mask.now j ≡ true → slice_index out.new (count j (marked mask.now)) ≡ slice_index points.now j }
 {
     let mut k = 0;
-    for j in 0..points.len() {
-        if mask[j] {
-            out[k] = points[j];
+    for (point, mark) in points.iter().zip(mask) {
+        if *mark {
+            out[k] = *point;
             k += 1;
         }
     }
@@ -74,86 +68,56 @@ fn scatter(mask: &[bool], values: &[u8], out: &mut [u8])
     ensures { (j : ℕ) → j < length mask.now → slice_index out.new j ≡ (if marked mask.now j then slice_index values.now (count j (marked mask.now)) else 0) }
 {
     let mut k = 0;
-    for j in 0..mask.len() {
+    for (j, x) in out.iter_mut().enumerate() {
         if mask[j] {
-            out[j] = values[k];
+            *x = values[k];
             k += 1;
         } else {
-            out[j] = 0;
+            *x = 0;
         }
     }
 }
 
-// The values go to the front of out.
-fn copy(values: &[u8], out: &mut [u8])
-    requires { length values.now ≤ length out.old }
-    ensures { (i : ℕ) → i < length values.now → slice_index out.new i ≡ slice_index values.now i }
-{
-    for u in 0..values.len() {
-        out[u] = values[u];
-    }
-}
-
 // Marks the places that are gone or may be wrong.
-fn locate<F: Field>(points: &[u8], sums: &[u8], gone: &[bool], mask: &mut [bool], sigma: &mut [u8])
-    requires { (Row F.Field.ops points.now sums.now gone.now) × ((length mask.old ≡ length points.now) × (length sums.now ≤ length sigma.old)) }
+// Stays: other crates give row_errors points, sums and marks apart; a struct would be made there for two calls, each with its own marks.
+fn locate<F: Field>(points: &[u8], sums: &[u8], gone: &[bool], mask: &mut [bool])
+    requires { (Row F.Field.ops points.now sums.now gone.now) × (length mask.old ≡ length points.now) }
     ensures { Located F.Field.ops points.now sums.now gone.now mask.new }
 {
-    let c = sums.len();
-    copy(sums, sigma);
-    let k = strike::<F>(points, gone, &mut sigma[..c]);
-    let t = (c - k) / 2;
-    let ws = kernel::<F>(&sigma[k..c], t);
-    choose::<F>(points, gone, &ws, t + 1, mask);
+    let mut sigma = [0; 256];
+    let sigma = &mut sigma[..sums.len()];
+    sigma.copy_from_slice(sums);
+    let k = strike::<F>(points, gone, sigma);
+    let t = (sums.len() - k) / 2;
+    let ws = kernel::<F>(&sigma[k..], t);
+    choose::<F>(points, gone, &ws[..t + 1], mask);
 }
 
 // The word that is zero but for the marked places and has the first sums.
-fn restore<F: Field>(
-    points: &[u8],
-    sums: &[u8],
-    mask: &[bool],
-    out: &mut [u8],
-    chosen: &mut [u8],
-    values: &mut [u8],
-)
-    requires row { (Row F.Field.ops points.now sums.now mask.now) × (length out.old ≡ length points.now) }
-    requires room { (length sums.now ≤ length chosen.old) × (length sums.now ≤ length values.old) }
+fn restore<F: Field>(points: &[u8], sums: &[u8], mask: &[bool], out: &mut [u8])
+    requires row { Row F.Field.ops points.now sums.now mask.now }
+    requires size { length out.old ≡ length points.now }
     ensures { Restored F.Field.ops points.now sums.now mask.now out.new }
 {
-    let r = gather(points, mask, chosen);
-    copy(sums, values);
-    solve::<F>(&chosen[..r], &mut values[..r]);
+    let mut chosen = [0; 256];
+    let r = gather(points, mask, &mut chosen);
+    let mut values = [0; 256];
+    let values = &mut values[..r];
+    values.copy_from_slice(&sums[..r]);
+    solve::<F>(&chosen[..r], values);
     scatter(mask, values, out);
 }
 
-// `row_errors`, with room to work in.
-fn correct<F: Field>(
-    points: &[u8],
-    sums: &[u8],
-    gone: &[bool],
-    out: &mut [u8],
-    mask: &mut [bool],
-    one: &mut [u8],
-    two: &mut [u8],
-)
-    requires row { (Row F.Field.ops points.now sums.now gone.now) × (length out.old ≡ length points.now) }
-    requires room { (length mask.old ≡ 256) × ((length one.old ≡ 256) × (length two.old ≡ 256)) }
-    ensures below { Below F.Field.ops.order out.new }
-    ensures is { (wrong : ℕ → Bool) (e : List ℕ) → Word F.Field.ops points.now sums.now gone.now wrong e → (j : ℕ) → j < length points.now → slice_index out.new j ≡ slice_index e j }
-{
-    let n = points.len();
-    locate::<F>(points, sums, gone, &mut mask[..n], one);
-    restore::<F>(points, sums, &mask[..n], out, two, one);
-}
-
-// The word with the sums that is zero but for the places that are gone and a few others, whichever it is.
+/// The word with the sums that is zero but for the places that are gone and a few others, whichever it is.
+/// A helper shared between crates: it asks for codes, at most 256 points that are all different, a mark and room for each,
+/// and at most 255 sums, no fewer than are gone.
 pub fn row_errors<F: Field>(points: &[u8], sums: &[u8], gone: &[bool], out: &mut [u8])
     requires { (Row F.Field.ops points.now sums.now gone.now) × (length out.old ≡ length points.now) }
     ensures below { Below F.Field.ops.order out.new }
     ensures is { (wrong : ℕ → Bool) (e : List ℕ) → Word F.Field.ops points.now sums.now gone.now wrong e → (j : ℕ) → j < length points.now → slice_index out.new j ≡ slice_index e j }
 {
     let mut mask = [false; 256];
-    let mut one = [0; 256];
-    let mut two = [0; 256];
-    correct::<F>(points, sums, gone, out, &mut mask, &mut one, &mut two);
+    let mask = &mut mask[..points.len()];
+    locate::<F>(points, sums, gone, mask);
+    restore::<F>(points, sums, mask, out);
 }

@@ -1,3 +1,1 @@
-pub mod Shows
 pub mod Strips
-pub mod Made

@@ -1,12 +1,11 @@
 -- How a tray is made, and how it wears.
 --   Laid        a meaning is what the layout says of the bytes, byte by byte
---   fresh_byte  the byte of a fresh tray at place i: 1 at a status, 0 elsewhere
 --   Fresh       every frame is open, and every strip gone
 --   no_strip    there is no such strip
 --   no_square   there is no such square
 --   Wears       what a wear command answers and leaves: refused if the place is not there, else the new bytes
 -- Assumes nothing.
-use Rattle.std.specs.Prelude.{◌≡◌, ℕ, ◌%◌, ◌<◌, ◌≤◌, true, false, cond, not, ◌⊎◌, List, [], ◌∷◌, Ok, Result, ◌==◌, slice_index}
+use Rattle.std.specs.Prelude.{◌≡◌, ℕ, ◌<◌, ◌≤◌, true, false, not, ◌⊎◌, List, [], ◌∷◌, Ok, Result, ◌==◌, slice_index}
 use Rattle.refusal.specs.declared.Refusal.{Refusal}
 use Rattle.refusal.specs.declared.Refusal.TheVariants.{NoSuchPlace}
 use Rattle.refusal.specs.Outcome.{Outcome}
@@ -26,9 +25,6 @@ pub record Laid (c : Counts) (xs : List ℕ) (w : Meaning) : Type 0 where
   -- the logic has a memory as a list of numbers, so that a code byte is a byte is said here
   pub square : (f s k : ℕ) → f < frame_count c → s < strip_count c → k < square_count c → w.gone f s ≡ false → slice_index xs (code_at (strip_count c) (square_count c) f s k) < 256
       → w.square f s k ≡ square_of (slice_index xs (code_at (strip_count c) (square_count c) f s k)) (slice_index xs (doubt_at (strip_count c) (square_count c) f s k))
-
-abbrev pub fresh_byte : ℕ → ℕ → ℕ
-fresh_byte m i = cond (i % width m == 0) 1 0
 
 pub record Fresh (w : Meaning) : Type 0 where
   pub all_open : (f : ℕ) → f < w.frames → w.unlocked f ≡ true

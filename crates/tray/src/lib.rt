@@ -1,9 +1,8 @@
 // A tray: a medium in the caller's memory, a few bytes to a square.
 #![tactic(auto)]
 
-mod make;
-mod store;
-mod tray;
+mod layout;
 mod wear;
 
-pub use tray::Tray;
+pub use layout::{Tray, TrayLayout};
+pub use wear::Wear;

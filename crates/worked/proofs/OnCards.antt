@@ -5,6 +5,7 @@ use mathlib.Core.Bool.{Bool, false}
 use mathlib.Core.List.{List, [], ◌∷◌}
 use Prim.Native.Nat.{ℕ, ◌<◌, ◌≤◌}
 use native.Mathlib.Omega.{arith}
+use Prim.Native.String.{String}
 use lib.Dec.{T, ltb, ltb→lt, lit<, lit≤}
 use lib.ListN.{length, get_or, take}
 use Rattle.laws.specs.Instances.{mod37}
@@ -12,11 +13,11 @@ use Rattle.laws.proofs.Fields.{mod37_laws}
 use Rattle.laws.proofs.Tests.{all, at2}
 use Rattle.geometry.specs.Rule.{Rule}
 use Rattle.algebra.specs.Frames.{IsFrame, FrameOf}
-use Rattle.algebra.specs.Showings.{Showing, reading, changed_squares, Fits}
+use Rattle.algebra.specs.Showings.{Showing, reading, gone_strips, doubtful_squares, changed_squares, Fits}
 use Rattle.algebra.proofs.Fitting.{frame_unique}
 use Rattle.worked.specs.Cards.{written, pictured}
 use Rattle.worked.specs.List.{CardFrame, CardReads, CardFitsNone}
-use Rattle.worked.proofs.Tested.{balanced, coded, tested, fits, changed_most}
+use Rattle.worked.proofs.Tested.{balanced, coded, tested, fitting, fits, changed_most}
 
 pub card_frame : (symbols xs : List ℕ) → length xs ≡ 6 → T (coded mod37 xs) → T (balanced mod37 2 3 2 xs) → take 2 xs ≡ symbols → FrameOf mod37 2 3 2 symbols xs
 card_frame symbols xs e t s b = record { frame = tested mod37 2 3 2 xs e t s; begins = b }
@@ -28,38 +29,30 @@ unit = card_frame (written "10") (written "10 2F G3") refl tt tt refl
 calm : ℕ → Bool
 calm j = false
 
-pub silent_square : CardReads "10 2F G4" "10" 0 0 1
-unfolding calm
-silent_square = record {
+-- a card that reads as that record, with no strip named wrong
+reads : (text : String) (gone doubtful changed : ℕ) → T (fitting 1 2 3 2 (reading 37 (pictured 2 text)) (written "10 2F G3") calm)
+    → gone_strips 3 (reading 37 (pictured 2 text)) ≡ gone → doubtful_squares 2 3 (reading 37 (pictured 2 text)) ≡ doubtful
+    → changed_squares 2 3 (reading 37 (pictured 2 text)) (written "10 2F G3") ≡ changed → CardReads text "10" gone doubtful changed
+reads text gone doubtful changed t g d k = record {
   frame = written "10 2F G3";
   its_frame = unit;
-  fits = fits 1 2 3 2 (reading 37 (pictured 2 "10 2F G4")) (written "10 2F G3") calm tt;
-  gone_are = refl;
-  doubtful_are = refl;
-  changed_are = refl;
+  fits = fits 1 2 3 2 (reading 37 (pictured 2 text)) (written "10 2F G3") calm t;
+  gone_are = g;
+  doubtful_are = d;
+  changed_are = k;
 }
+
+pub silent_square : CardReads "10 2F G4" "10" 0 0 1
+unfolding calm
+silent_square = reads "10 2F G4" 0 0 1 tt refl refl refl
 
 pub gone_and_silent : CardReads "-- 2F G4" "10" 1 0 1
 unfolding calm
-gone_and_silent = record {
-  frame = written "10 2F G3";
-  its_frame = unit;
-  fits = fits 1 2 3 2 (reading 37 (pictured 2 "-- 2F G4")) (written "10 2F G3") calm tt;
-  gone_are = refl;
-  doubtful_are = refl;
-  changed_are = refl;
-}
+gone_and_silent = reads "-- 2F G4" 1 0 1 tt refl refl refl
 
 pub gone_and_doubtful : CardReads "-- ?F ?3" "10" 1 2 0
 unfolding calm
-gone_and_doubtful = record {
-  frame = written "10 2F G3";
-  its_frame = unit;
-  fits = fits 1 2 3 2 (reading 37 (pictured 2 "-- ?F ?3")) (written "10 2F G3") calm tt;
-  gone_are = refl;
-  doubtful_are = refl;
-  changed_are = refl;
-}
+gone_and_doubtful = reads "-- ?F ?3" 1 2 0 tt refl refl refl
 
 -- the frame of the record of a and b
 abbrev blend : ℕ → ℕ → ℕ → ℕ → ℕ

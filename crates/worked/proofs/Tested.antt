@@ -1,18 +1,20 @@
 -- Frames and fits of known numbers by computed tests, and a bound on how much a fitting frame differs. Assumes nothing.
-use mathlib.Core.Path.{◌≡◌, refl}
-use mathlib.Core.Bool.{Bool, true, false, cond, not, ◌||◌}
+use mathlib.Core.Path.{◌≡◌, refl, sym}
+use mathlib.Core.Bool.{Bool, true, false, cond, not, ◌&&◌, ◌||◌}
 use mathlib.Core.List.{List}
 use Prim.Native.Nat.{ℕ, zero, suc, ◌+◌, ◌*◌, ◌≤◌}
 use native.Mathlib.Nat.{mul-add, mul-one, mul-zero}
 use native.Mathlib.Omega.{arith}
+use Rattle.std.proofs.lemmas.Bool.{true≢false}
 use lib.Dec.{T, eqb, ltb, leb, ltb→lt, leb→le, eqb→eq}
 use lib.ListN.{length, get_or}
 use Rattle.laws.specs.Ops.{Ops}
-use Rattle.laws.proofs.Tests.{both, all, at, both_parts}
+use Rattle.laws.proofs.Tests.{all, at, both_parts}
 use Rattle.algebra.specs.Frames.{IsFrame, check_sum}
 use Rattle.algebra.specs.Showings.{Showing, count, differs, silent, gone_strips, doubtful_squares, changed_squares, Fits}
 use Rattle.fitting.specs.Wrong.{total, changes, left_out}
-use Rattle.fitting.proofs.Counting.{count_le, count_blocks}
+use Rattle.algebra.proofs.Counting.{count_le}
+use Rattle.fitting.proofs.Counting.{count_blocks}
 use Rattle.fitting.proofs.Deciding.{silent_total}
 
 -- every check sum is 0, and every symbol a code
@@ -33,10 +35,10 @@ module _ (limit m n c : ℕ) (w : Showing) (xs : List ℕ) where
   -- how a naming of wrong strips is tested
   abbrev pub fitting : (ℕ → Bool) → Bool
   fitting wrong =
-      both (all n (λ j. not (wrong j) || not (w.gone j)))
-      (both (ltb (2 * count n wrong + gone_strips n w) c)
-      (both (leb (2 * count (n * m) (silent m w wrong xs) + doubtful_squares m n w) m)
-      (leb (count (n * m) (silent m w wrong xs)) limit)))
+      all n (λ j. not (wrong j) || not (w.gone j))
+      && (ltb (2 * count n wrong + gone_strips n w) c
+      && (leb (2 * count (n * m) (silent m w wrong xs) + doubtful_squares m n w) m
+      && leb (count (n * m) (silent m w wrong xs)) limit))
 
   pub fits : (wrong : ℕ → Bool) → T (fitting wrong) → Fits limit m n c w xs
   fits wrong t =
@@ -54,7 +56,7 @@ module _ (limit m n c : ℕ) (w : Showing) (xs : List ℕ) where
       there : (x g : Bool) → x ≡ true → T (not x || not g) → g ≡ false
       there true false e t = refl
       there true true e t = absurd t
-      there false g e t = let z : ◌≡◌ {A = ℕ} 0 1 = cc in absurd (omega arith)
+      there false g e t = absurd (true≢false (sym e))
 
   -- beyond the silent squares only wrong strips differ
   differs_most : (wrong : ℕ → Bool) (d : ℕ → ℕ) (k : ℕ) → ((j : ℕ) → d j ≤ m) → total k d ≤ total k (left_out d wrong) + m * count k wrong

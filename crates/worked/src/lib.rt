@@ -4,8 +4,6 @@
 ghost use Rattle.worked.specs.List.{Worked};
 
 /// The worked frames, all of them.
-pub fn worked_frames_stand() -> u8
+pub fn worked_frames_stand()
     ensures { Worked }
-{
-    0
-}
+{}

@@ -1,9 +1,7 @@
-use Rattle.std.proofs.Common.{◌≡◌, get_or}
-use Rattle.algebra.specs.Showings.{count, doubt}
-use Rattle.attempts.specs.Shown.{shows, Ranked}
+use Rattle.std.proofs.Common.{◌≡◌, ℕ, ◌<◌, length, get_or}
+use Rattle.fitting.specs.Reading.{showing_of}
+use Rattle.attempts.specs.Shown.{doubtful_list}
 use Rattle.attempts.proofs.reading.list_doubtful.Given as goal
 
-abbrev pub invariant-loop-p : goal.invariant-loop-p
-invariant-loop-p l = (l.d ≡ count l.p (doubt l.m (shows l.order l.codes l.strip_marks l.square_marks)))
-    × Ranked (λ p. p) l.m (shows l.order l.codes l.strip_marks l.square_marks) l.p l.squares
-    × Ranked (λ p. get_or l.locators p 0) l.m (shows l.order l.codes l.strip_marks l.square_marks) l.p l.points
+abbrev pub invariant-loop-rank : goal.invariant-loop-rank
+invariant-loop-rank l = (k : ℕ) → k < length l.yielded → get_or l.squares k 0 ≡ get_or (doubtful_list l.reading.geometry.squares l.reading.geometry.strips (showing_of l.reading)) k 0

@@ -1,54 +1,45 @@
-use mathlib.Core.Path.{sym, subst, ◌∙◌}
-use Prim.Native.Nat.{ℕ, suc, ◌+◌, ◌*◌, ◌/◌, ◌<◌}
-use native.Mathlib.Nat.{div-lt_iff_lt-mul}
-use native.Mathlib.Omega.{arith}
-use lib.ListN.{length, get_or, set}
+use Rattle.std.proofs.Common.{◌/◌, ◌∙◌, arith}
 use Rattle.algebra.specs.Frames.{strip_locator, square_locator}
-use Rattle.solver.specs.Sums.{marked, Taken}
-use Rattle.solver.proofs.Parts.{part}
-use Rattle.correction.specs.Nearing.{Near, Held}
+use Rattle.solver.specs.Sums.{Taken}
 use Rattle.correction.proofs.Checks.{table_below, taken_out}
-use Rattle.correction.proofs.Sites.{ahead_size, ahead_at}
-use Rattle.correction.proofs.Steps.{nearer}
+use Rattle.candidates.proofs.Sites.{rule_at, small_at, strip_there, nearer_at}
 use Rattle.candidates.proofs.erasures.erase_one.Goals as goal
 
-pub error_at-x-requires : goal.error_at-x-requires
-error_at-x-requires g c = record {
-  site = c.requires.site;
-  listed = c.requires.listed;
-  there = c.requires.there;
-  size = c.requires.held.table_size;
-  codes = table_below g.F.Field.ops g.met.F.Field.lawful c.args.m (length c.args.strips.now) c.args.c c.requires.site.rule c.args.array.now c.args.table.now c.requires.held;
-  desk = c.requires.desk;
-}
+pub error_at-error-requires-clause-codes : goal.error_at-error-requires-clause-codes
+error_at-error-requires-clause-codes g c =
+    let geo = c.args.site.now.geometry.now in
+    table_below g.F.Field.ops g.met.F.Field.lawful geo.squares geo.strips geo.checks (rule_at g.F.Field.ops g.met.F.Field.lawful geo c.args.site.now.order) c.args.array.now c.args.table.now c.requires.held
 
-pub bounds-strips-square : goal.bounds-strips-square
-bounds-strips-square g c = (div-lt_iff_lt-mul c.requires.site.rule.0).1 (c.requires.listed.places c.args.k c.requires.there)
+pub bounds-array-square : goal.bounds-array-square
+bounds-array-square g c = omega (arith, c.requires.chosen.places 0 (omega arith), c.requires.held.size)
 
-pub returns : goal.returns
-returns g c =
+pub locator-requires : goal.locator-requires
+locator-requires g c =
+    let geo = c.args.site.now.geometry.now in
+    let small = small_at g.F.Field.ops g.met.F.Field.lawful geo c.args.site.now.order in
+    rw c.squares-m.ensures (omega (arith, small.strips, strip_there geo.squares geo.strips c.args.square c.args.ahead.now geo.rule.0 c.requires.chosen))
+
+pub locator-requires-2 : goal.locator-requires-2
+locator-requires-2 g c =
+    let small = small_at g.F.Field.ops g.met.F.Field.lawful c.args.site.now.geometry.now c.args.site.now.order in
+    omega (arith, c.requires.chosen.places 0 (omega arith), small.all)
+
+pub returns-clause-held : goal.returns-clause-held
+returns-clause-held g c =
     let F = g.F.Field.ops in
     let L = g.met.F.Field.lawful in
-    let m = c.args.m in
-    let n = length c.args.strips.now in
-    let strips = c.args.strips.now in
-    let squares = c.args.squares.now in
-    let points = c.args.points.now in
-    let k = c.args.k in
-    let s = get_or squares k 0 in
-    let xs = c.args.array.now in
-    let x = c.error_at-x.result in
-    let ls : s < n * m = c.requires.listed.places k c.requires.there in
-    let lj : s / m < n = (div-lt_iff_lt-mul c.requires.site.rule.0).1 ls in
-    let taken : Taken F x (strip_locator F (s / m)) (square_locator F s) c.args.c m c.args.table.now c.take_out.new.table
-    = subst (λ (z : ℕ). Taken F x z (square_locator F s) c.args.c m c.args.table.now c.take_out.new.table) (c.requires.site.powers (s / m) lj)
-    (subst (λ (z : ℕ). Taken F x (get_or strips (s / m) 0) z c.args.c m c.args.table.now c.take_out.new.table) (c.requires.listed.located k c.requires.there) c.take_out.ensures) in
-    record {
-      sums = subst (λ (v : ℕ). Held F m n c.args.c (set xs s v) c.take_out.new.table) (sym c.sub.ensures)
-          (taken_out F L m n c.args.c c.requires.site.rule xs c.args.table.now c.take_out.new.table s x c.requires.held ls c.error_at-x.ensures.below
-          (c.take_out.auto.table ∙ c.requires.held.table_size) taken);
-      frame = λ wrong ys near. subst (λ (v : ℕ). Near F m n c.args.c (marked c.args.gone.now) wrong squares (suc k) (set xs s v) ys) (sym c.sub.ensures)
-          (nearer F L m n c.args.c strips c.args.gone.now c.requires.site squares points c.requires.listed k c.requires.there
-          (part (k + 1) (length points) points) (ahead_size k squares points c.requires.listed.size c.requires.there) (ahead_at k points (omega (arith, c.requires.there, c.requires.listed.size)))
-          xs ys x c.requires.held.size c.requires.held.below wrong near (c.error_at-x.ensures.value xs c.requires.held wrong ys near));
-    }
+    let geo = c.args.site.now.geometry.now in
+    let s = c.args.square in
+    let taken : Taken F c.error_at-error.result (strip_locator F (s / geo.squares)) (square_locator F s) geo.checks geo.squares c.args.table.now c.take_out.new.table
+    = rw (← c.squares-m.ensures, ← c.checks.ensures, ← c.locator.ensures, ← c.locator-2.ensures) c.take_out.ensures in
+    rw c.sub.ensures (taken_out F L geo.squares geo.strips geo.checks (rule_at F L geo c.args.site.now.order) c.args.array.now c.args.table.now c.take_out.new.table s c.error_at-error.result c.requires.held
+    (c.requires.chosen.places 0 (omega arith)) c.error_at-error.ensures.below (c.take_out.auto.table ∙ c.requires.held.table_size) taken)
+
+pub returns-clause-nearer : goal.returns-clause-nearer
+returns-clause-nearer g c =
+    let F = g.F.Field.ops in
+    let L = g.met.F.Field.lawful in
+    let site = c.args.site.now in
+    let geo = site.geometry.now in
+    λ wrong ys near. rw c.sub.ensures (nearer_at F L geo.squares geo.strips geo.checks (rule_at F L geo site.order) site.gone.now site.marks site.room c.args.square c.args.ahead.now c.requires.chosen
+    c.args.array.now ys c.args.table.now c.error_at-error.result c.requires.held wrong near (c.error_at-error.ensures.value c.args.array.now c.requires.held wrong ys near))

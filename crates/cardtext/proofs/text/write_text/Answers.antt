@@ -1,18 +1,20 @@
-use Rattle.std.proofs.Common.{arith}
-use Rattle.medium.proofs.Places.{row_le}
-use Rattle.cardtext.specs.Text.{width}
-use Rattle.cardtext.proofs.Strips.{beside_none, text_more}
+use Rattle.std.proofs.Common.{◌*◌, ◌∙◌, ap₂, subst, arith}
+use Rattle.cardtext.specs.Text.{Text, width, ending}
+use Rattle.cardtext.proofs.Strips.{written_more, all_written}
 use Rattle.cardtext.proofs.text.write_text.Goals as goal
-
-pub loop-j-init : goal.loop-j-init
-loop-j-init c = (λ j h. absurd (omega arith), beside_none c.args.out.now 0 _)
-
-pub write_strip-requires : goal.write_strip-requires
-write_strip-requires c =
-    let r = row_le c.loop-j.j c.args.n (width c.args.m) (omega arith) in
-    let s = row_le c.loop-j.j c.args.n c.args.m (omega arith) in
-    (omega arith, (omega arith, c.requires.1.1))
 
 pub loop-j-preserved : goal.loop-j-preserved
 loop-j-preserved c =
-    text_more c.args.m c.args.n c.loop-j.j c.args.squares.now c.args.out.now c.loop-j.out c.write_strip.new.out c.ending.result c.ending.ensures.value c.loop-j.invariant.0 c.loop-j.invariant.1 c.write_strip.ensures.value c.write_strip.ensures.same
+    let g = c.args.geometry.now in
+    let s = c.in-Some.ensures.steps in
+    let inv = c.loop-j.invariant in
+    let at = ap₂ (λ j m. j * width m) s.1 c.squares-width.ensures in (
+      s.0.0 ∙ inv.0,
+      written_more g.squares g.strips _ _ _ _ _ _ _ _ _ _ _ _ g.rule.0 c.requires.size (omega (arith, c.loop-j.auto.out)) inv.1 s.0.1.0 (s.0.1.1 ∙ inv.0) s.2 at (omega arith) (omega arith) (c.ending.ensures.value ∙ ap₂ ending c.strips.ensures s.1) c.write_strip.ensures.value,
+    )
+
+pub returns-clause-value : goal.returns-clause-value
+returns-clause-value c =
+    let g = c.args.geometry.now in
+    let w = c.loop-j.invariant.1 in
+    subst (Text g.squares g.strips c.args.squares.now c.loop-j.out) (all_written _ _ _ _ _ _ _ c.requires.size w (omega (arith, c.in-None.ensures.steps))) w.text

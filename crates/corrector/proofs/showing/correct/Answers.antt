@@ -1,18 +1,21 @@
-use Rattle.std.proofs.Common.{Ok, sym, refl, ◌∙◌, arith}
+use Rattle.std.proofs.Common.{◌≡◌, ◌*◌, ap, ◌∙◌, arith}
 use Rattle.attempts.specs.Attempts.{Ready}
-use Rattle.corrector.proofs.Granting.{granted_hit, ready_by}
+use Rattle.corrector.proofs.Granting.{read, granted}
 use Rattle.corrector.proofs.showing.correct.Goals as goal
 
-pub returns-in-Some : goal.returns-in-Some
-returns-in-Some g c =
+pub returns : goal.returns
+returns g c =
     let F = g.F.Field.ops in
     let geo = c.args.geometry.now in
-    let ready : Ready F geo.order geo.squares geo.strips geo.checks c.args.codes.now c.args.strip_marks.now c.args.square_marks.now c.args.frame.now
-    = ready_by F geo.order geo.squares geo.strips geo.checks c.order-order.result c.squares-squares.result c.args.codes.now c.args.strip_marks.now c.args.square_marks.now c.args.frame.now
-    c.count_marked.result c.count_doubtful.result (sym c.order-order.ensures ∙ c.if-order-size.false ∙ c.size.ensures) c.order-order.ensures c.squares-squares.ensures
-    (c.if-codes-size.false ∙ c.frame_size-size.ensures) (c.if-strip_marks-strips.false ∙ c.strips.ensures) (c.if-square_marks-size.false ∙ c.frame_size-size.ensures) (c.if-frame-size.false ∙ c.frame_size-size.ensures)
-    c.count_marked.ensures (omega (arith, c.if-count_marked-checks.false, c.checks.ensures)) c.count_doubtful.ensures (omega (arith, c.if-count_doubtful-squares.false, c.squares-squares.ensures)) in
-    record {
-      frame = granted_hit F geo.order geo.squares geo.strips geo.checks c.args.codes.now c.args.strip_marks.now c.args.square_marks.now c.args.frame.now c.fitting_frame.new.frame
-          c.in-Some.counts (Ok c.in-Some.counts) refl ready c.in-Some.ensures.value;
-    }
+    let r = c.in_ok-reading.reading in
+    let is = read F geo c.args.shown r c.in_ok-reading.ensures in
+    let m : r.geometry.squares ≡ geo.squares = ap (λ h. h.squares) is.geometry_is in
+    let n : r.geometry.strips ≡ geo.strips = ap (λ h. h.strips) is.geometry_is in
+    let checks : r.geometry.checks ≡ geo.checks = ap (λ h. h.checks) is.geometry_is in
+    let size : geo.strips * geo.squares ≡ r.geometry.strips * r.geometry.squares = cc in
+    let ready : Ready F r = record {
+      order_is = is.order_is;
+      gone = omega (arith, c.if-count_gone-checks.false, c.count_gone.ensures, c.checks.ensures);
+      doubtful = omega (arith, c.if-count_doubtful-squares.false, c.count_doubtful.ensures, c.squares.ensures);
+    } in
+    record { frame = granted F geo c.args.shown r is c.args.frame.now c.correct_sums-found.new.frame ready (c.if-frame-frame_size.false ∙ c.frame_size.ensures ∙ size) c.correct_sums-found.result c.correct_sums-found.ensures c.ok_or.result c.ok_or.ensures.value }

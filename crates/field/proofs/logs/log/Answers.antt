@@ -6,4 +6,4 @@ use Rattle.field.proofs.logs.log.Goals as goal
 pub returns : goal.returns
 returns c =
     let l = logarithm_at byte_logs refl c.args.a (omega arith) in
-    record { below = log_most byte_logs c.args.a _ l; value = l }
+    record { below = rw c.from.ensures (log_most byte_logs c.args.a _ l); value = rw c.from.ensures l }

@@ -1,20 +1,12 @@
-use Rattle.std.proofs.Common.{length, sym, ap, zero-mul, arith}
-use Rattle.algebra.specs.Showings.{Showing, reading, differs, count}
+use Rattle.std.proofs.Common.{length, ap, ◌∙◌, rules, tests}
+use Rattle.algebra.specs.Showings.{differs, count, reading}
 use Rattle.fitting.specs.Marks.{shown_by}
-use Rattle.fitting.proofs.Strips.{strip_more, strip_room}
+use Rattle.fitting.proofs.Chains.{counts_below}
 use Rattle.fitting.proofs.counts.count_changed.Goals as goal
 
-pub loop-strip-init : goal.loop-strip-init
-loop-strip-init c = sym (ap (λ k. count k (differs c.args.squares (reading c.args.order (shown_by c.args.codes.now c.args.strip_marks.now c.args.square_marks.now)) c.args.frame.now)) (zero-mul c.args.squares))
-
-pub overflow_add-all : goal.overflow_add-all
-overflow_add-all c =
-    let w : Showing = reading c.args.order (shown_by c.args.codes.now c.args.strip_marks.now c.args.square_marks.now) in
-    let r = strip_room (differs c.args.squares w c.args.frame.now) c.args.squares (length c.args.strip_marks.now) c.loop-strip.strip c.loop-strip-test.true in
-    omega (arith, c.changed_in-all.ensures, c.loop-strip.invariant, c.requires.sized.shown)
-
-pub loop-strip-preserved : goal.loop-strip-preserved
-loop-strip-preserved c =
-    let w : Showing = reading c.args.order (shown_by c.args.codes.now c.args.strip_marks.now c.args.square_marks.now) in
-    let e = strip_more (differs c.args.squares w c.args.frame.now) c.args.squares c.loop-strip.strip in
-    omega (arith, e, c.changed_in-all.ensures, c.loop-strip.invariant)
+pub returns : goal.returns
+returns c =
+    let s = c.args.shown in
+    let p = differs c.args.squares (reading c.args.order (shown_by s.codes.now s.strip_marks.now s.square_marks.now)) c.args.frame.now in
+    counts_below _ c.filter.result p c.count.result c.count.ensures.ran c.filter.ensures.closure (λ x r q k. search (rules, tests)) (length s.codes.now) c.filter.ensures.source
+    ∙ ap (λ z. count z p) c.requires.sized.shown

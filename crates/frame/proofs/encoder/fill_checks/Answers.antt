@@ -1,21 +1,13 @@
-use Rattle.std.proofs.Common.{◌≡◌, ◌+◌, ◌*◌, length, get_or, ap, ◌∙◌, arith}
+use Rattle.std.proofs.Common.{◌+◌, ◌*◌, length, get_or, ap, ◌∙◌, arith}
 use Rattle.laws.specs.Ops.{power}
 use Rattle.solver.proofs.Parts.{sum_cong}
 use Rattle.frame.specs.Tables.{column}
 use Rattle.frame.proofs.Checks.{check_columns_below}
 use Rattle.frame.proofs.encoder.fill_checks.Goals as goal
 
-pub solve_strips-requires : goal.solve_strips-requires
-solve_strips-requires g c =
-    let columns = c.check_columns.new.columns in
-    let long : length columns ≡ length c.args.locators.now * c.args.m = c.check_columns.auto.columns ∙ c.requires.strips_size in
-    record {
-      locators_size = c.requires.squares_size;
-      columns_size = long;
-      locators_below = c.requires.squares_below;
-      columns_below = check_columns_below g.F.Field.ops c.args.m c.args.locators.now c.args.table.now columns long c.check_columns.ensures.value;
-      apart = c.requires.squares_apart;
-    }
+pub solve_strips-requires-clause-columns_below : goal.solve_strips-requires-clause-columns_below
+solve_strips-requires-clause-columns_below g c =
+    check_columns_below g.F.Field.ops c.args.m c.args.locators.now c.args.table.now c.check_columns.new.columns (c.check_columns.auto.columns ∙ c.requires.strips_size) c.check_columns.ensures.value
 
 pub returns : goal.returns
 returns g c =

@@ -2,24 +2,8 @@ use Rattle.std.proofs.Common.{◌≡◌, ◌+◌, ◌*◌, length, get_or, ap, �
 use Rattle.laws.specs.Ops.{power}
 use Rattle.solver.proofs.Parts.{sum_cong}
 use Rattle.frame.specs.Tables.{row_sum}
-use Rattle.frame.proofs.Strips.{strip_end, in_strip, part_size, strips_more}
+use Rattle.frame.proofs.Strips.{strip_end, part_size, strips_more}
 use Rattle.frame.proofs.syndromes.sum_rows.Goals as goal
-
-pub slice_bounds-moments-end : goal.slice_bounds-moments-end
-slice_bounds-moments-end g c = let e = strip_end c.args.c c.args.m c.loop-h.h (omega arith) in omega arith
-
-pub moments-requires : goal.moments-requires
-moments-requires g c =
-    let m = c.args.m in
-    let h = c.loop-h.h in
-    let row = c.gather_row.new.row in
-    let long : length row ≡ length c.args.row.now = omega arith in
-    record {
-      size = omega arith;
-      points = c.requires.locators_below;
-      weights = λ j l. let r = in_strip m (length c.args.row.now) j h (omega arith) (omega arith) in
-          rw (c.gather_row.ensures.value j l) (c.requires.columns_below (j * m + h) (omega arith));
-    }
 
 pub loop-h-preserved : goal.loop-h-preserved
 loop-h-preserved g c =

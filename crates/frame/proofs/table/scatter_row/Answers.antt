@@ -1,13 +1,7 @@
 use Rattle.std.proofs.Common.{length, refl, arith}
 use Rattle.frame.proofs.Strips.{in_strip}
-use Rattle.frame.proofs.Rows.{scatter_none, scatter_more}
+use Rattle.frame.proofs.Rows.{scatter_more}
 use Rattle.frame.proofs.table.scatter_row.Goals as goal
-
-pub bounds-columns-j : goal.bounds-columns-j
-bounds-columns-j c = let e = in_strip c.args.m (length c.args.row.now) c.loop-j.j c.args.h (omega arith) c.requires.within in omega (arith, c.requires.size)
-
-pub loop-j-init : goal.loop-j-init
-loop-j-init c = scatter_none c.args.m c.args.h c.args.row.now c.args.columns.now
 
 pub loop-j-preserved : goal.loop-j-preserved
 loop-j-preserved c =

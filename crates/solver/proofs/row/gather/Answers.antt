@@ -1,21 +1,30 @@
-use Rattle.std.proofs.Common.{length, arith}
+use Rattle.std.proofs.Common.{◌+◌, length, set, sym, refl, ap, ◌∙◌, arith}
+use Rattle.std.proofs.lemmas.List.{length_push}
+use Rattle.std.proofs.lemmas.Slice.Zip.{zip_turn}
 use Rattle.solver.specs.Sums.{marked}
-use Rattle.solver.proofs.Ranks.{count_room}
-use Rattle.solver.proofs.Gathers.{gather_true, gather_false}
+use Rattle.algebra.proofs.Counting.{count_room}
+use Rattle.solver.proofs.Gathers.{gather_true}
 use Rattle.solver.proofs.row.gather.Goals as goal
-use Rattle.solver.proofs.row.gather.Goals.{then-mask-j, else-mask-j}
 
 pub bounds-out-k : goal.bounds-out-k
-bounds-out-k c = let r = count_room (marked c.args.mask.now) c.loop-j.j (length c.args.points.now) (omega arith) c.if-mask-j.true in omega (arith, c.loop-j.invariant.0)
+bounds-out-k c =
+    let here = zip_turn c.args.points.now c.args.mask.now _ _ _ c.next.new.self _ (cc) (cc) c.loop-point.yielded_by _ c.in-Some.is c.next.ensures.steps in
+    let r = count_room (marked c.args.mask.now) (length c.loop-point.yielded) (length c.args.points.now) here.0 (sym (here.3 _) ∙ c.if-mark.true) in
+    omega (arith, c.loop-point.invariant.0)
 
 pub overflow_add-k : goal.overflow_add-k
-overflow_add-k c = let r = count_room (marked c.args.mask.now) c.loop-j.j (length c.args.points.now) (omega arith) c.if-mask-j.true in omega (arith, c.loop-j.invariant.0)
+overflow_add-k c =
+    let here = zip_turn c.args.points.now c.args.mask.now _ _ _ c.next.new.self _ (cc) (cc) c.loop-point.yielded_by _ c.in-Some.is c.next.ensures.steps in
+    let r = count_room (marked c.args.mask.now) (length c.loop-point.yielded) (length c.args.points.now) here.0 (sym (here.3 _) ∙ c.if-mark.true) in
+    omega (arith, c.loop-point.invariant.0)
 
-pub loop-j-preserved : goal.loop-j-preserved
-loop-j-preserved c =
-    let p = marked c.args.mask.now in
-    elim c.if-mask-j.branch [
-      | then-mask-j w ↦ (let r = count_room p c.loop-j.j (length c.args.points.now) (omega arith) w.if-mask-j.true in
-          gather_true c.args.points.now p c.loop-j.j c.loop-j.k c.if-mask-j.k c.loop-j.out c.if-mask-j.out c.loop-j.invariant w.if-mask-j.true (omega (arith, c.loop-j.invariant.0)) w.out-is w.k-is)
-      | else-mask-j w ↦ gather_false c.args.points.now p c.loop-j.j c.loop-j.k c.if-mask-j.k c.loop-j.out c.if-mask-j.out c.loop-j.invariant w.if-mask-j.false w.out-is w.k-is
-    ]
+pub loop-point-preserved-then-mark : goal.loop-point-preserved-then-mark
+loop-point-preserved-then-mark c =
+    let k = c.loop-point.k in
+    let out = c.loop-point.out in
+    let here = zip_turn c.args.points.now c.args.mask.now _ _ _ c.next.new.self _ (cc) (cc) c.loop-point.yielded_by _ c.in-Some.is c.next.ensures.steps in
+    let mark = sym (here.3 _) ∙ c.if-mark.true in
+    let r = count_room (marked c.args.mask.now) (length c.loop-point.yielded) (length c.args.points.now) here.0 mark in
+    rw (length_push c.loop-point.yielded (c.in-Some.point, c.in-Some.mark))
+    (gather_true c.args.points.now (marked c.args.mask.now) (length c.loop-point.yielded) k (k + 1) out (set out k c.in-Some.point.now) c.loop-point.invariant mark
+    (omega (arith, c.loop-point.invariant.0)) (ap (λ v. set out k v) (here.2 0)) refl)

@@ -1,27 +1,27 @@
-use Rattle.std.proofs.Common.{◌≡◌, ℕ, ◌-◌, ◌/◌, ◌<◌, ◌++◌, length, get_or, take, drop, ◌∙◌, add-one, arith, get_or-take}
+use Rattle.std.proofs.Common.{◌≡◌, ℕ, ◌+◌, ◌-◌, ◌/◌, ◌<◌, ◌≤◌, List, length, get_or, take, ap, ◌∙◌, add-one, arith}
+use Rattle.std.proofs.lemmas.Grind.{common_steps}
 use Rattle.refusal.specs.Codes.{Below}
 use Rattle.solver.specs.Sums.{struck}
-use Rattle.solver.proofs.Parts.{length_window, get_d_window, length_front}
+use Rattle.solver.proofs.Parts.{part, length_part, get_d_part}
+use Rattle.solver.proofs.Gathers.{choice_front}
 use Rattle.solver.proofs.Rowing.{located_codes, struck_code}
 use Rattle.solver.proofs.row.locate.Goals as goal
 
 pub kernel-ws-requires : goal.kernel-ws-requires
 kernel-ws-requires g c =
-    let F = g.F.Field.ops in
-    let L = g.met.F.Field.lawful in
     let row = c.requires.0 in
-    let size = length c.args.sums.now in
-    let base = c.copy.new.out in
+    let vs = c.copy_from_slice.new.self in
     let ps = c.strike-k.new.values in
     let k = c.strike-k.result in
-    let lf : length (take size base) ≡ size = length_front size base (omega arith) in
-    let lp : length ps ≡ size = omega (arith, c.strike-k.auto.values) in
-    let lw = length_window k size ps (drop size base) lp in
-    let bv : Below F.order (take size base) = λ i l. rw (get_or-take size base i 0 (omega arith) ∙ c.copy.ensures i (omega arith)) (row.sums_below i (omega arith)) in (
+    let size : length ps ≡ length vs = c.strike-k.auto.values in
+    let same = ap length c.copy_from_slice.ensures.after in
+    let few : k ≤ length ps = omega (arith, row.room, c.strike-k.ensures.value) in
+    let lp = length_part k (length ps) ps (omega arith) in
+    let bv : Below g.F.Field.ops.order vs = λ i l. rw c.copy_from_slice.ensures.after (row.sums_below i (omega arith)) in (
       omega (arith, row.short),
       (
         omega arith,
-        λ i l. rw (get_d_window k size ps (drop size base) lp i (omega arith) ∙ c.strike-k.ensures.rest i (omega arith)) (struck_code F L c.args.points.now c.args.gone.now (take size base) bv (length c.args.points.now) i),
+        λ i l. rw (get_d_part k (length ps) ps i (omega arith) ∙ c.strike-k.ensures.rest i (omega arith)) (struck_code g.F.Field.ops g.met.F.Field.lawful c.args.points.now c.args.gone.now vs bv (length c.args.points.now) i),
       ),
     )
 
@@ -30,21 +30,25 @@ returns g c =
     let F = g.F.Field.ops in
     let L = g.met.F.Field.lawful in
     let row = c.requires.0 in
-    let size = length c.args.sums.now in
-    let base = c.copy.new.out in
+    let points = c.args.points.now in
+    let sums = c.args.sums.now in
+    let gone = c.args.gone.now in
+    let vs = c.copy_from_slice.new.self in
     let ps = c.strike-k.new.values in
+    let ws = c.kernel-ws.result in
     let k = c.strike-k.result in
-    let t = (size - k) / 2 in
-    let lf : length (take size base) ≡ size = length_front size base (omega arith) in
-    let lp : length ps ≡ size = omega (arith, c.strike-k.auto.values) in
-    let lw = length_window k size ps (drop size base) lp in
-    let vs_is : (i : ℕ) → i < size → get_or (take size base) i 0 ≡ get_or c.args.sums.now i 0 = λ i l. get_or-take size base i 0 l ∙ c.copy.ensures i l in
-    let bv : Below F.order (take size base) = λ i l. rw (vs_is i (omega arith)) (row.sums_below i (omega arith)) in
-    let few = row.room in
-    let S_is : (i : ℕ) → i < size - k → get_or (take (size - k) (drop k (ps ++ drop size base))) i 0 ≡ struck F c.args.points.now c.args.gone.now (take size base) (length c.args.points.now) i
-    = λ i l. get_d_window k size ps (drop size base) lp i l ∙ c.strike-k.ensures.rest i (omega arith) in
-    located_codes F L c.args.points.now c.args.sums.now c.args.gone.now row (take size base) (take (size - k) (drop k (ps ++ drop size base))) c.kernel-ws.result c.choose.new.mask t
-    bv vs_is (omega (arith, c.strike-k.ensures.value)) (omega (arith, c.strike-k.ensures.value))
-    (λ i l. rw (S_is i (omega arith)) (struck_code F L c.args.points.now c.args.gone.now (take size base) bv (length c.args.points.now) i))
+    let t = (length sums - k) / 2 in
+    let size : length ps ≡ length vs = c.strike-k.auto.values in
+    let same = ap length c.copy_from_slice.ensures.after in
+    let few : k ≤ length ps = omega (arith, row.room, c.strike-k.ensures.value) in
+    let short = row.short in
+    let lp = length_part k (length ps) ps (omega arith) in
+    let lw : length (take (t + 1) ws) ≡ t + 1 = grind (arith, common_steps) in
+    let bv : Below F.order vs = λ i l. rw c.copy_from_slice.ensures.after (row.sums_below i (omega arith)) in
+    let S_is : (i : ℕ) → i < length sums - k → get_or (part k (length ps) ps) i 0 ≡ struck F points gone vs (length points) i =
+    λ i l. get_d_part k (length ps) ps i (omega arith) ∙ c.strike-k.ensures.rest i (omega arith) in
+    located_codes F L points sums gone row vs (part k (length ps) ps) ws c.choose.new.mask t
+    bv (λ i l. ap (λ (zs : List ℕ). get_or zs i 0) c.copy_from_slice.ensures.after) (omega (arith, c.strike-k.ensures.value)) (omega (arith, c.strike-k.ensures.value))
+    (λ i l. rw (S_is i (omega arith)) (struck_code F L points gone vs bv (length points) i))
     (λ i l. S_is i (omega (arith, c.strike-k.ensures.value)))
-    c.kernel-ws.ensures (λ j l. rw (add-one t) at (c.choose.ensures j l))
+    c.kernel-ws.ensures (λ j l. rw (add-one t) at (choice_front F points gone ws (t + 1) c.choose.new.mask j lw (c.choose.ensures j l)))

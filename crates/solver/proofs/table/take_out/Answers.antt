@@ -3,12 +3,6 @@ use Rattle.solver.proofs.Parts.{length_part}
 use Rattle.solver.proofs.Tables.{table_more}
 use Rattle.solver.proofs.table.take_out.Goals as goal
 
-pub slice_bounds-take_row-end : goal.slice_bounds-take_row-end
-slice_bounds-take_row-end g c =
-    let s : suc c.loop-h.h ≤ c.args.m = omega arith in
-    let up = mul-le-mul_right c.args.c s in
-    let e = suc-mul c.loop-h.h c.args.c in omega arith
-
 pub loop-h-preserved : goal.loop-h-preserved
 loop-h-preserved g c =
     let F = g.F.Field.ops in

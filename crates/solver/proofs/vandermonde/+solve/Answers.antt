@@ -30,8 +30,8 @@ solve-requires g t c κs within =
       ),
     )
 
-pub returns-then-points-gt0 : goal.returns-then-points-gt0
-returns-then-points-gt0 g t c =
+pub returns-then-not-is_empty : goal.returns-then-not-is_empty
+returns-then-not-is_empty g t c =
     let F = g.F.Field.ops in
     let L = g.met.F.Field.lawful in
     let points = c.args.points.now in
@@ -40,6 +40,7 @@ returns-then-points-gt0 g t c =
     let zs = c.solve.new.values in
     let xs = c.unpeel.new.values in
     let n = length points - 1 in
+    let some : 0 < length points = search rules in
     let size : length points ≡ suc n = omega arith in
     let lx : length xs ≡ suc n = omega arith in
     let lv : length vs ≡ suc n = omega arith in

@@ -14,4 +14,4 @@ unfolding inverses right
 returns-then-a-lt37 c =
     let a = c.args.a in
     let h = c.if-a-lt37.true in
-    eqb→eq (get_or inverses a 0) (a ^ 35 % 37) (at 37 right tt a h) ∙ sym (in_1 37 a _ h)
+    rw c.from.ensures (eqb→eq (get_or inverses a 0) (a ^ 35 % 37) (at 37 right tt a h) ∙ sym (in_1 37 a _ h))

@@ -1,35 +1,7 @@
-use Rattle.std.proofs.Common.{refl, rules}
-use Rattle.reel.specs.Calls.{code_on, Ready}
-use Rattle.kept.specs.Calls.{Reads}
-use Rattle.kept.proofs.Effects.{suits}
-use Rattle.kept.proofs.Kept.{reads_kept}
-use Rattle.reel.proofs.Found.{code_lawful}
-use Rattle.reel.proofs.Loaded.{unready, ready_does}
+use Rattle.reel.proofs.Keeping.{reading_kept}
 use Rattle.reel.proofs.reel.Reel.read.Goals as goal
 
--- no history ends in a medium that does not suit
-pub returns-then-not-is_ready : goal.returns-then-not-is_ready
-returns-then-not-is_ready g c =
-    let F = g.F.Field.ops in
-    let geo = c.args.self.now.geometry in
-    let v = g.M.Medium.shows c.args.self.now.medium in
-    let unfit : Ready F geo v → ⊥ = search rules in
-    record {
-      still = refl;
-      value = unready F geo v _ _ _ unfit refl (refl, refl);
-      kept = λ order start h rec b e. absurd (unfit (record { order = order; suits = suits (code_on F geo) h }));
-    }
-
-pub returns : goal.returns
-returns g c =
-    let F = g.F.Field.ops in
-    let geo = c.args.self.now.geometry in
-    let v = g.M.Medium.shows c.args.self.now.medium in
-    let w = g.M.Medium.shows c.read_record.new.medium in
-    let ready : Ready F geo v = search rules in
-    let does : Reads (code_on F geo) v c.args.frame c.args.out.now c.read_record.result c.read_record.new.out w = c.read_record.ensures.value in
-    record {
-      still = refl;
-      value = ready_does F geo v _ _ c.read_record.result ready does;
-      kept = λ order. reads_kept (code_on F geo) (code_lawful F geo g.met.F.Field.lawful order) v w c.args.frame c.args.out.now c.read_record.new.out c.read_record.result does;
-    }
+pub returns-clause-kept : goal.returns-clause-kept
+returns-clause-kept g c =
+    reading_kept g.F.Field.ops g.met.F.Field.lawful c.args.self.now.geometry (g.M.Medium.shows c.args.self.now.medium)
+    (g.M.Medium.shows c.read_fitting.new.self.medium) c.args.frame c.read_fitting.result c.args.out.now c.read_fitting.new.out c.read_fitting.ensures.value

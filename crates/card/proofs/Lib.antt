@@ -1,6 +1,0 @@
-pub mod Letters
-pub mod Lines
-pub mod Made
-pub mod Shows
-pub mod Tested
-pub mod Written
