@@ -37,6 +37,7 @@ pub trait Medium {
         ensures below { Limits (shows self.now) };
 
     /// How a square looks; refused with 3 if a number is too large.
+    // Stays: callers have the numbers of a place one by one; a struct of them would be made anew at each call.
     fn look(&mut self, frame: usize, strip: usize, square: usize) -> Result<Look, Refusal>
         ensures value { result ≡ look_of (shows self.old) frame strip square }
         ensures same { shows self.new ≡ shows self.old };

@@ -18,6 +18,7 @@ impl<'a, L: Layout> InMemory<'a, L> {
     }
 
     // The bytes of a strip. Asks for a strip that there is, in a memory of the right length.
+    // Stays: a strip that there is, as a type, would hold the medium by a borrow, and writing needs it by another.
     fn strip(&self, frame: usize, strip: usize) -> &[u8]
         requires { HasStrip L.plan self.now.counts frame strip self.now.bytes.now }
         ensures long { length result.now ≡ L.plan.width self.now.counts.squares }
