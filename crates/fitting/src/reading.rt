@@ -28,6 +28,7 @@ impl<'a> Shown<'a> {
     ghost use Rattle.fitting.specs.Marks.{shown_by};
 
     // Whether a field of this order cannot tell a square, where its strip is not gone.
+    // Stays: the bound of an index, here and in the next two, as a slice asks for it.
     pub(crate) fn is_unsure(&self, order: usize, square: usize) -> bool
         requires codes { square < length self.now.codes.now }
         requires marks { square < length self.now.square_marks.now }
