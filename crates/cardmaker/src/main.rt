@@ -5,7 +5,7 @@ use cardtext::{LINE, LineBuffer, frame_line, parse_number};
 use geometry::Geometry;
 use refusal::Refusal;
 use std::env::FillError;
-use std::io::{BufReader, BufWriter, Read, Write};
+use std::io::{BufWriter, Read, Write};
 use std::rt::Env;
 use std::{fmt, io};
 
@@ -18,6 +18,9 @@ const ARGUMENT: usize = 131072;
 
 // What is kept of a line: no record is so long.
 const KEPT: usize = 64;
+
+// What is read at once.
+const CHUNK: usize = 65536;
 
 // What was answered so far.
 #[derive(Default, Drop)]
@@ -75,13 +78,27 @@ impl<'a, W: Write> Answers<'a, W> {
         }
     }
 
-    // Answers each line of the input, the last one even if nothing ends it, and sums up.
-    fn answer_all<R: Read + Drop>(&mut self, input: R) -> io::Result<()> {
-        for byte in input.bytes() {
-            match byte? {
+    // Answers the lines that end in a part of the input, and keeps the start of the one that does not.
+    fn answer_part(&mut self, part: &[u8]) -> io::Result<()> {
+        for &byte in part {
+            match byte {
                 b'\n' => self.answer()?,
                 byte => self.line.push(byte),
             }
+        }
+        Ok(())
+    }
+
+    // Answers each line of the input, the last one even if nothing ends it, and sums up.
+    // Stays: `bytes` costs a test for each byte, and takes its reader, which would be one that allocates.
+    fn answer_all<R: Read>(&mut self, input: &mut R) -> io::Result<()> {
+        let mut chunk = [0; CHUNK];
+        for _ in 0..u64::MAX {
+            let got = input.read(&mut chunk)?;
+            if got == 0 {
+                break;
+            }
+            self.answer_part(&chunk[..got])?;
         }
         if !self.line.as_slice().is_empty() {
             self.answer()?;
@@ -112,8 +129,7 @@ fn main(rt: HostRuntime) -> io::Result<()> {
     let mut out = BufWriter::new(rt.alloc(), rt.stdout())?;
     match geometry(&rt) {
         Ok(geometry) => {
-            let input = BufReader::new(rt.alloc(), rt.stdin())?;
-            Answers::new(geometry, &mut out).answer_all(input)?;
+            Answers::new(geometry, &mut out).answer_all(&mut rt.stdin())?;
         }
         Err(refusal) => writeln!(out, "! {refusal}")?,
     }

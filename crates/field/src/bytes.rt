@@ -1,11 +1,11 @@
 // The field of 256 codes: polynomials over two elements, modulo 0x11D, multiplied by their logarithms.
-ghost use Rattle.std.specs.Prelude.{◌≡◌, refl};
-ghost use Rattle.laws.specs.Ops.{Ops, Laws, less};
+ghost use Rattle.std.specs.Prelude.{◌≡◌, ℕ, ◌<◌, slice_index, refl};
+ghost use Rattle.laws.specs.Ops.{Ops, Laws, less, power as power_of};
 ghost use Rattle.laws.specs.Instances.{bytes};
 ghost use Rattle.laws.proofs.Fields.{byte_laws};
 
 use crate::field::Field;
-use crate::logs::{exp, log};
+use crate::logs::{exp, first_powers, log};
 
 /// Every byte is a code.
 pub struct Bytes;
@@ -42,5 +42,9 @@ impl Field for Bytes {
 
     fn inv(a: u8) -> u8 {
         if a == 0 { 0 } else { exp(255 - log(a)) }
+    }
+
+    fn powers() -> [u8; 256] {
+        first_powers()
     }
 }

@@ -1,5 +1,6 @@
 // Powers and logarithms of the generator in the field of 256 codes, by tables.
-ghost use Rattle.std.specs.Prelude.{◌≡◌, ◌≤◌};
+ghost use Rattle.std.specs.Prelude.{◌≡◌, ℕ, ◌<◌, ◌≤◌, slice_index};
+ghost use Rattle.laws.specs.Ops.{power};
 ghost use Rattle.laws.specs.Instances.{bytes};
 ghost use Rattle.laws.specs.Logarithms.{Log, antilog};
 
@@ -71,4 +72,13 @@ pub fn log(a: u8) -> u16
     ensures value { Log bytes a result }
 {
     LOG[usize::from(a)]
+}
+
+/// The powers of the generator, from exponent 0 on.
+pub fn first_powers() -> [u8; 256]
+    ensures { (k : ℕ) → k < 256 → slice_index result k ≡ power bytes 2 k }
+{
+    let mut first = [0; 256];
+    first.copy_from_slice(&EXP[..256]);
+    first
 }

@@ -43,7 +43,8 @@ impl<'a> Shown<'a> {
         requires there { square < length self.now.codes.now }
         ensures { result ≡ doubt squares (reading order (shown_by self.now.codes.now self.now.strip_marks.now self.now.square_marks.now)) square }
     {
-        self.strip_marks[square / squares] == 0 && self.is_unsure(order, square)
+        // most squares are told without finding their strip, for which a division is made
+        self.is_unsure(order, square) && self.strip_marks[square / squares] == 0
     }
 
     // Whether a square is clear, and a frame has another code there.

@@ -13,7 +13,7 @@ use Rattle.frame.proofs.Strips.{in_strip}
 use Rattle.frame.proofs.Columns.{check_strips}
 
 -- a part's elements are the list's
-tail_below : (q i j : ℕ) (xs : List ℕ) → j ≤ length xs → Below q xs → Below q (part i j xs)
+pub tail_below : (q i j : ℕ) (xs : List ℕ) → j ≤ length xs → Below q xs → Below q (part i j xs)
 tail_below q i j xs h b k l = let s = length_part i j xs h in rw (get_d_part i j xs k (omega arith)) (b (i + k) (omega arith))
 
 pub tail_apart : (i j : ℕ) (xs : List ℕ) → j ≤ length xs → Apart xs → Apart (part i j xs)

@@ -4,7 +4,6 @@ ghost use Rattle.refusal.specs.Codes.{Below};
 ghost use Rattle.laws.specs.Ops.{Ops};
 ghost use Rattle.frame.specs.Tables.{Powers, Sums};
 
-use crate::power_sums::powers;
 use crate::syndromes::check_sums;
 use field::Field;
 use geometry::Geometry;
@@ -26,10 +25,8 @@ impl<F: Field> Default for Locators<F> {
 
 impl<F: Field> Locators<F> {
     pub fn new() -> Self {
-        let mut all = [0; 256];
-        powers::<F>(F::GENERATOR, &mut all);
         Locators {
-            powers: all,
+            powers: F::powers(),
             field: PhantomData,
         }
     }

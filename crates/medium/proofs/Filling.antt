@@ -1,9 +1,13 @@
 -- A frame that is written strip by strip: each strip leaves those before it, and all other frames, as they were.
 -- Assumes nothing.
-use Rattle.std.proofs.Common.{◌≡◌, ℕ, ◌+◌, ◌*◌, ◌<◌, ◌≤◌, ◌≢◌, List, get_or, refl, ◌∙◌, ⊎_elim, arith, below_more}
+use Rattle.std.proofs.Common.{◌≡◌, ℕ, ◌+◌, ◌*◌, ◌<◌, ◌≤◌, ◌≢◌, List, get_or, refl, ◌∙◌, subst, ⊎_elim, arith, below_more}
 use Rattle.medium.specs.Memory.{Beside, Filled}
 use Rattle.medium.specs.Places.{strip_at}
 use Rattle.medium.proofs.Places.{row_le, strip_after, strip_before, frames_apart}
+
+-- the same bytes, by equal numbers
+pub beside_moved : (xs ys : List ℕ) (at at' w w' : ℕ) → at' ≡ at → w' ≡ w → Beside xs ys at' (at' + w') → Beside xs ys at (at + w)
+beside_moved xs ys at at' w w' ea ew b = subst (λ a. Beside xs ys a (a + w)) ea (subst (λ x. Beside xs ys at' (at' + x)) ew b)
 
 module _ (n w f : ℕ) (P : ℕ → List ℕ → Type 0) where
   pub filled_none : (xs : List ℕ) → Filled n w f 0 P xs xs

@@ -1,6 +1,7 @@
 -- Bounds on the counts of a medium, and where a strip stands in a memory, from the laws of products. Assumes nothing.
-use Rattle.std.proofs.Common.{ℕ, zero, suc, ◌+◌, ◌*◌, ◌<◌, ◌≤◌, ◌≢◌, ◌⊎◌, inl, inr, ⊎_elim, mul-le-mul_right, suc-mul, mul-zero, zero-mul, mul-suc, arith}
+use Rattle.std.proofs.Common.{ℕ, zero, suc, ◌+◌, ◌*◌, ◌<◌, ◌≤◌, ◌≢◌, ◌⊎◌, inl, inr, ⊎_elim, mul-le-mul_right, suc-mul, mul-le-mul, mul-zero, zero-mul, mul-suc, arith}
 use Rattle.std.proofs.lemmas.Bool.{cases_order}
+use Rattle.medium.specs.Limits.{Suited}
 
 -- a row before the row b ends where b starts, or before
 pub row_le : (a b w : ℕ) → a < b → a * w + w ≤ b * w
@@ -14,6 +15,16 @@ some_each (suc n) (suc m) h =
     let a = suc-mul n (suc m) in
     let b = mul-suc n m in
     (omega arith, omega arith, omega arith, omega arith)
+
+-- a memory of strips of at most 511 bytes has fewer than 2^29
+pub few_strips : (fs n m : ℕ) → Suited fs n m → fs * n ≤ 1044480
+few_strips fs n m h =
+    let e = some_each n m h.2 in
+    let b : n ≤ 255 = omega arith in
+    mul-le-mul h.1 b
+
+pub few_bytes : (fs n m w : ℕ) → Suited fs n m → w ≤ 511 → fs * n * w ≤ 533729280
+few_bytes fs n m w h l = mul-le-mul (few_strips fs n m h) l
 
 -- Strips of w places each follow one another through all frames, n to a frame: strip s of frame f starts at place (f * n + s) * w.
 module _ (fs n w : ℕ) where

@@ -1,6 +1,6 @@
 -- Media in a memory, where each strip takes w bytes: what a test and a writing ask of it, and what a writing leaves alone.
 --   Passes   what the test asks: counts within the limits, and a memory of their length
---   Tests    what the test answers: the counts if they pass, else 2
+--   Tests    what the test answers: the counts, which keep the limits, if they pass, else 2
 --   Room     there is such a frame, the memory has its length, and the codes are as many as the squares of a frame
 --   Beside   all is as it was but from the place lo up to the place hi
 --   Filled   the first t strips of frame f are as P says, and every byte that is not the frame's is as it was
@@ -18,7 +18,7 @@ abbrev pub Passes : ℕ → ℕ → ℕ → ℕ → ℕ → Type 0
 Passes fs n m w long = Suited fs n m × (long ≡ size_of fs n w)
 
 abbrev pub Tests : ℕ → ℕ → ℕ → ℕ → ℕ → Result Counts Refusal → Type 0
-Tests fs n m w long r = MatchResult r (λ c. (frame_count c ≡ fs) × (strip_count c ≡ n) × (square_count c ≡ m) × (long ≡ size_of fs n w)) (λ e. (e ≡ Unsuited) × (Passes fs n m w long → ⊥))
+Tests fs n m w long r = MatchResult r (λ c. (frame_count c ≡ fs) × (strip_count c ≡ n) × (square_count c ≡ m) × (long ≡ size_of fs n w) × Suited fs n m) (λ e. (e ≡ Unsuited) × (Passes fs n m w long → ⊥))
 
 pub record Room (c : Counts) (w f : ℕ) (codes xs : List ℕ) : Type 0 where
   pub there : f < frame_count c

@@ -67,6 +67,7 @@ impl Counts {
     pub fn strips(&self) -> usize
         ensures value { result ≡ strip_count self.now }
         ensures below { (1 ≤ result) × (result ≤ 255) }
+        ensures suited { Suited (frame_count self.now) (strip_count self.now) (square_count self.now) }
     {
         self.strips
     }
@@ -74,6 +75,7 @@ impl Counts {
     pub fn squares(&self) -> usize
         ensures value { result ≡ square_count self.now }
         ensures below { (1 ≤ result) × (result ≤ 255) }
+        ensures suited { Suited (frame_count self.now) (strip_count self.now) (square_count self.now) }
     {
         self.squares
     }
@@ -82,20 +84,23 @@ impl Counts {
     pub fn frame_squares(&self) -> usize
         ensures value { result ≡ strip_count self.now * square_count self.now }
         ensures below { (1 ≤ result) × (result ≤ 255) }
+        ensures suited { Suited (frame_count self.now) (strip_count self.now) (square_count self.now) }
     {
         self.strips * self.squares
     }
 
     /// Whether there is such a strip.
     pub fn has_strip(&self, frame: usize, strip: usize) -> bool
-        ensures { IsTrue result ↔ ((frame < frame_count self.now) × (strip < strip_count self.now)) }
+        ensures there { IsTrue result ↔ ((frame < frame_count self.now) × (strip < strip_count self.now)) }
+        ensures suited { Suited (frame_count self.now) (strip_count self.now) (square_count self.now) }
     {
         frame < self.frames && strip < self.strips
     }
 
     /// Whether there is such a square.
     pub fn has_square(&self, frame: usize, strip: usize, square: usize) -> bool
-        ensures { IsTrue result ↔ ((frame < frame_count self.now) × (strip < strip_count self.now) × (square < square_count self.now)) }
+        ensures there { IsTrue result ↔ ((frame < frame_count self.now) × (strip < strip_count self.now) × (square < square_count self.now)) }
+        ensures suited { Suited (frame_count self.now) (strip_count self.now) (square_count self.now) }
     {
         self.has_strip(frame, strip) && square < self.squares
     }
@@ -104,6 +109,7 @@ impl Counts {
     pub fn size(&self, width: usize) -> usize
         requires { width ≤ 511 }
         ensures value { result ≡ size_of (frame_count self.now) (strip_count self.now) width }
+        ensures suited { Suited (frame_count self.now) (strip_count self.now) (square_count self.now) }
     {
         self.frames * self.strips * width
     }
@@ -114,6 +120,7 @@ impl Counts {
         ensures value { result ≡ strip_at (strip_count self.now) width frame strip }
         ensures below { result + width ≤ size_of (frame_count self.now) (strip_count self.now) width }
         ensures small { result < 2 ^ 30 }
+        ensures suited { Suited (frame_count self.now) (strip_count self.now) (square_count self.now) }
     {
         (frame * self.strips + strip) * width
     }

@@ -5,6 +5,7 @@
 // two together but the length, and a test that may refuse hands out no value that holds the memory. So a making asks nothing:
 // over a memory of the wrong length the medium is closed and every strip of it gone. After the test this never comes about.
 ghost use Rattle.std.specs.Prelude.{◌≡◌, ℕ, ◌+◌, ◌<◌, ◌≤◌, true, length, slice_index};
+ghost use Rattle.medium.specs.Limits.{Suited};
 ghost use Rattle.medium.specs.Memory.{Tests};
 ghost use Rattle.memory.specs.Shows.{size as memory_size, shows};
 
@@ -51,6 +52,7 @@ impl<'a, L: Layout> InMemory<'a, L> {
     /// How many bytes a medium takes.
     pub fn size(counts: Counts) -> usize
         ensures value { result ≡ memory_size L.plan counts }
+        ensures suited { Suited counts.frames counts.strips counts.squares }
     {
         counts.size(L::width(counts))
     }
@@ -60,6 +62,7 @@ impl<'a, L: Layout> InMemory<'a, L> {
         ensures value { length bytes.old ≡ memory_size L.plan counts → L.Laid counts bytes.old (shows L.plan result.counts result.bytes.now) }
         ensures left { result.bytes.now ≡ bytes.old }
         ensures counts { result.counts ≡ counts }
+        ensures suited { Suited counts.frames counts.strips counts.squares }
     {
         InMemory {
             bytes,
@@ -73,6 +76,7 @@ impl<'a, L: Layout> InMemory<'a, L> {
         ensures value { length bytes.old ≡ memory_size L.plan counts → L.Fresh (shows L.plan result.counts result.bytes.now) }
         ensures left { (length result.bytes.now ≡ length bytes.old) × (((i : ℕ) → i < length result.bytes.now → slice_index result.bytes.now i ≡ L.plan.fresh_byte counts.squares i)) }
         ensures counts { result.counts ≡ counts }
+        ensures suited { Suited counts.frames counts.strips counts.squares }
     {
         fill::<L>(bytes, counts);
         Self::over(bytes, counts)

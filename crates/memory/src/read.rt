@@ -1,5 +1,6 @@
 // How the bytes of a medium in memory read. All goes through a shared borrow, after which the bytes are known to be the same.
 ghost use Rattle.std.specs.Prelude.{◌≡◌, ◌+◌, ◌*◌, ◌<◌, ◌≤◌, true, false, length, if◌then◌else◌};
+ghost use Rattle.medium.specs.Limits.{Suited};
 ghost use Rattle.medium.specs.Meaning.{look_of, open_of};
 ghost use Rattle.memory.specs.Plan.{Alike};
 ghost use Rattle.memory.specs.Shows.{place, HasStrip, has_size, frame_writable, shows};
@@ -32,6 +33,7 @@ impl<'a, L: Layout> InMemory<'a, L> {
     // How a square looks.
     pub(crate) fn seen(&self, frame: usize, strip: usize, square: usize) -> Result<Look, Refusal>
         ensures value { result ≡ look_of (shows L.plan self.now.counts self.now.bytes.now) frame strip square }
+        ensures suited { Suited self.now.counts.frames self.now.counts.strips self.now.counts.squares }
     {
         if !self.counts.has_square(frame, strip, square) {
             return Err(Refusal::NoSuchPlace);
@@ -64,6 +66,7 @@ impl<'a, L: Layout> InMemory<'a, L> {
     // Whether a frame is open.
     pub(crate) fn told(&self, frame: usize) -> Result<bool, Refusal>
         ensures value { result ≡ open_of (shows L.plan self.now.counts self.now.bytes.now) frame }
+        ensures suited { Suited self.now.counts.frames self.now.counts.strips self.now.counts.squares }
     {
         if frame >= self.counts.frames() {
             return Err(Refusal::NoSuchPlace);

@@ -1,6 +1,7 @@
 // Writing on a medium in memory: the codes of a frame, strip by strip.
 ghost use Rattle.std.specs.Prelude.{◌≡◌, ◌+◌, ◌*◌, ◌<◌, ◌≤◌, ◌↔◌, IsTrue, IfOk, IfErr, length};
 ghost use Rattle.refusal.specs.Codes.{Below};
+ghost use Rattle.medium.specs.Limits.{Suited};
 ghost use Rattle.medium.specs.Memory.{Room, Beside};
 ghost use Rattle.medium.specs.Write.{Writes};
 ghost use Rattle.memory.specs.Shows.{place, HasStrip, shows, Takes, Stored};
@@ -22,6 +23,7 @@ impl<'a, L: Layout> InMemory<'a, L> {
     pub(crate) fn test_write(&self, frame: usize, codes: &[u8]) -> Result<(), Refusal>
         ensures ok { IfOk result (λ _. Takes L.plan self.now.counts frame codes.now self.now.bytes.now) }
         ensures err { IfErr result (λ e. Writes (shows L.plan self.now.counts self.now.bytes.now) frame codes.now (Err e) (shows L.plan self.now.counts self.now.bytes.now)) }
+        ensures suited { Suited self.now.counts.frames self.now.counts.strips self.now.counts.squares }
     {
         if frame >= self.counts.frames() {
             return Err(Refusal::NoSuchPlace);

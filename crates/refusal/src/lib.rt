@@ -1,7 +1,7 @@
 // Why a call was refused, one number for each cause.
 #![tactic(auto)]
 
-ghost use Rattle.std.specs.Prelude.{◌≡◌};
+ghost use Rattle.std.specs.Prelude.{◌≡◌, Some, decimal};
 ghost use Rattle.refusal.specs.Numbers.{number_of};
 
 use std::error::Error;
@@ -47,6 +47,8 @@ impl From<Refusal> for u8 {
 
 /// Prints the number.
 impl fmt::Display for Refusal {
+    ghost output = { λ cause. Some (decimal (number_of cause)) };
+
     fn fmt<W: fmt::Write>(&self, f: &mut fmt::Formatter<W>) -> fmt::Result {
         write!(f, "{}", u8::from(*self))
     }

@@ -2,6 +2,7 @@
 ghost use Rattle.std.specs.Prelude.{◌≡◌, ◌+◌, ◌^◌, ◌<◌, ℕ, IfOk, IfErr, List, slice_set};
 ghost use Rattle.refusal.specs.declared.Refusal.TheVariants.{NoSuchPlace};
 ghost use Rattle.medium.specs.Counts.{Shape};
+ghost use Rattle.medium.specs.Limits.{Suited};
 ghost use Rattle.medium.specs.Places.{strip_at};
 ghost use Rattle.tray.specs.Layout.{width, code_at, doubt_at};
 ghost use Rattle.tray.specs.Make.{no_strip, no_square, Wears};
@@ -54,6 +55,7 @@ impl<'a> Wear for Tray<'a> {
         ensures worn { Wears (no_square self.old.counts frame strip square) self.old.bytes.now (slice_set (slice_set self.old.bytes.now (code_at self.old.counts.strips self.old.counts.squares frame strip square) code) (doubt_at self.old.counts.strips self.old.counts.squares frame strip square) 0) result self.new.bytes.now }
         ensures left { self.new.bytes.ghost_name ≡ self.old.bytes.ghost_name }
         ensures counts { self.new.counts ≡ self.old.counts }
+        ensures suited { Suited self.old.counts.frames self.old.counts.strips self.old.counts.squares }
     {
         let at = find_code(self.counts, frame, strip, square)?;
         put(self.bytes, at, code);
@@ -65,6 +67,7 @@ impl<'a> Wear for Tray<'a> {
         ensures worn { Wears (no_square self.old.counts frame strip square) self.old.bytes.now (slice_set self.old.bytes.now (doubt_at self.old.counts.strips self.old.counts.squares frame strip square) 1) result self.new.bytes.now }
         ensures left { self.new.bytes.ghost_name ≡ self.old.bytes.ghost_name }
         ensures counts { self.new.counts ≡ self.old.counts }
+        ensures suited { Suited self.old.counts.frames self.old.counts.strips self.old.counts.squares }
     {
         let at = find_code(self.counts, frame, strip, square)?;
         put(self.bytes, at + self.counts.squares(), 1);
@@ -75,6 +78,7 @@ impl<'a> Wear for Tray<'a> {
         ensures worn { Wears (no_strip self.old.counts frame strip) self.old.bytes.now (slice_set self.old.bytes.now (strip_at self.old.counts.strips (width self.old.counts.squares) frame strip) 1) result self.new.bytes.now }
         ensures left { self.new.bytes.ghost_name ≡ self.old.bytes.ghost_name }
         ensures counts { self.new.counts ≡ self.old.counts }
+        ensures suited { Suited self.old.counts.frames self.old.counts.strips self.old.counts.squares }
     {
         let counts = self.counts;
         if !counts.has_strip(frame, strip) {
@@ -90,6 +94,7 @@ impl<'a> Wear for Tray<'a> {
 fn find_code(counts: Counts, frame: usize, strip: usize, square: usize) -> Result<usize, Refusal>
     ensures ok { IfOk result (λ at. (no_square counts frame strip square → ⊥) × (at ≡ code_at counts.strips counts.squares frame strip square) × (at < 2 ^ 31)) }
     ensures err { IfErr result (λ e. (e ≡ NoSuchPlace) × no_square counts frame strip square) }
+    ensures suited { Suited counts.frames counts.strips counts.squares }
 {
     if !counts.has_square(frame, strip, square) {
         return Err(Refusal::NoSuchPlace);

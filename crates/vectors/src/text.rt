@@ -100,7 +100,8 @@ impl Showing {
         let mut strips = [0; ROOM];
         let mut squares = [0; ROOM];
         let mut text = Squares { rest: text };
-        for (p, (code, doubt)) in codes.iter_mut().zip(squares.iter_mut()).enumerate() {
+        let places = codes.iter_mut().zip(squares.iter_mut());
+        for (p, (code, doubt)) in places.take(geometry.frame_size()).enumerate() {
             text.skip_comma();
             match text.look() {
                 Some(Look::Gone) => {
