@@ -1,6 +1,7 @@
 // A reel, and the four calls on it.
 ghost use Rattle.std.specs.Prelude.{◌≡◌, ◌*◌, ◌<◌, length, MatchResult};
 ghost use Rattle.refusal.specs.declared.Refusal.TheVariants.{Unsuited};
+ghost use Rattle.medium.specs.Limits.{Limits};
 ghost use Rattle.kept.specs.Code.{room};
 ghost use Rattle.kept.specs.Shows.{shown_of};
 ghost use Rattle.kept.specs.Calls.{Finds};
@@ -42,7 +43,10 @@ impl<M: Medium, F: Field> Reel<M, F> {
         checks: usize,
     ) -> Result<Geometry, Refusal>
         ensures value { Loads F.Field.ops (M.Medium.shows medium.now) order squares strips checks result }
+        ensures limits { Limits (M.Medium.shows medium.now) }
     {
+        // the limits of a medium are told by this call alone
+        let _ = medium.levels();
         let geometry = Geometry::new(order, squares, strips, checks)?;
         Self::suited(medium, &geometry)?;
         Ok(geometry)
@@ -51,7 +55,10 @@ impl<M: Medium, F: Field> Reel<M, F> {
     // Refused with 2 unless the geometry has the field's order, and the medium its strips, its squares, and levels enough.
     fn suited(medium: &M, geometry: &Geometry) -> Result<(), Refusal>
         ensures value { MatchResult result (λ _. Ready F.Field.ops geometry.now (M.Medium.shows medium.now)) (λ e. (e ≡ Unsuited) × (Ready F.Field.ops geometry.now (M.Medium.shows medium.now) → ⊥)) }
+        ensures limits { Limits (M.Medium.shows medium.now) }
     {
+        // the limits of a medium are told by this call alone
+        let _ = medium.levels();
         if geometry.order() != usize::from(F::ORDER)
             || medium.strips() != geometry.strips()
             || medium.squares() != geometry.squares()
@@ -93,6 +100,7 @@ impl<M: Medium, F: Field> Reel<M, F> {
     pub fn store(&mut self, frame: usize, symbols: &[u8]) -> Result<(), Refusal>
         ensures still { self.new.geometry ≡ self.old.geometry }
         ensures frame { Storing F.Field.ops self.old.geometry (M.Medium.shows self.old.medium) frame symbols.now result (M.Medium.shows self.new.medium) }
+        ensures limits { Limits (M.Medium.shows self.old.medium) }
     {
         Self::suited(&self.medium, &self.geometry)?;
         if frame >= self.medium.frames() {
@@ -113,6 +121,7 @@ impl<M: Medium, F: Field> Reel<M, F> {
         ensures still { self.new.geometry ≡ self.old.geometry }
         ensures value { Reading F.Field.ops self.old.geometry (M.Medium.shows self.old.medium) frame out.old result out.new (M.Medium.shows self.new.medium) }
         ensures kept { ReadingKept F.Field.ops self.old.geometry (M.Medium.shows self.old.medium) frame out.old result out.new }
+        ensures limits { Limits (M.Medium.shows self.old.medium) }
     {
         self.read_fitting(frame, out)
     }
@@ -121,6 +130,7 @@ impl<M: Medium, F: Field> Reel<M, F> {
     fn read_fitting(&mut self, frame: usize, out: &mut [u8]) -> Result<Counts, Refusal>
         ensures still { self.new.geometry ≡ self.old.geometry }
         ensures value { Reading F.Field.ops self.old.geometry (M.Medium.shows self.old.medium) frame out.old result out.new (M.Medium.shows self.new.medium) }
+        ensures limits { Limits (M.Medium.shows self.old.medium) }
     {
         Self::suited(&self.medium, &self.geometry)?;
         if frame >= self.medium.frames() {
@@ -141,6 +151,7 @@ impl<M: Medium, F: Field> Reel<M, F> {
         ensures still { self.new.geometry ≡ self.old.geometry }
         ensures frame { Mending F.Field.ops self.old.geometry (M.Medium.shows self.old.medium) frame result (M.Medium.shows self.new.medium) }
         ensures kept { MendingKept F.Field.ops self.old.geometry (M.Medium.shows self.old.medium) frame result (M.Medium.shows self.new.medium) }
+        ensures limits { Limits (M.Medium.shows self.old.medium) }
     {
         self.copy(frame, frame)
     }
@@ -149,6 +160,7 @@ impl<M: Medium, F: Field> Reel<M, F> {
     pub fn copy(&mut self, source: usize, target: usize) -> Result<Counts, Refusal>
         ensures still { self.new.geometry ≡ self.old.geometry }
         ensures frame { Copying F.Field.ops self.old.geometry (M.Medium.shows self.old.medium) source target result (M.Medium.shows self.new.medium) }
+        ensures limits { Limits (M.Medium.shows self.old.medium) }
     {
         Self::suited(&self.medium, &self.geometry)?;
         if source >= self.medium.frames() {

@@ -11,4 +11,4 @@ returns g c =
     let geo = c.in_ok-geometry.geometry in
     let laid : LaidOut c.args.order c.args.squares c.args.strips c.args.checks geo = search rules in
     let ready : Ready F geo v = search rules in
-    record { value = tested F v c.args.order c.args.squares c.args.strips c.args.checks geo laid _ refl ready }
+    record { value = tested F v c.args.order c.args.squares c.args.strips c.args.checks geo laid _ refl ready; limits = search rules }
